@@ -1,0 +1,4 @@
+pub mod Parities
+pub mod Degrees
+pub mod Checks
+pub mod Refusals
