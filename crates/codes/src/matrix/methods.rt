@@ -1,4 +1,4 @@
-ghost use Prim.Native.Nat.{ℕ, _≤_, max};
+ghost use Prim.Native.Nat.{_≤_};
 ghost use mathlib.Core.Path.{_≡_};
 ghost use mathlib.Core.List.{_++_};
 ghost use lib.ListN.{length, drop};
@@ -83,12 +83,7 @@ impl Matrix {
         if out.len() < m {
             return Err(SyndromeRefusal::ShortBuffer(m));
         }
-        fill_syndrome(
-            self.positions.as_slice(),
-            self.ends.as_slice(),
-            key,
-            &mut out[0..m],
-        );
+        fill_syndrome(self.positions(), self.ends(), key, &mut out[0..m]);
         Ok(())
     }
 }

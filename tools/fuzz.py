@@ -1,0 +1,88 @@
+#!/usr/bin/env python3
+"""Runs random scripts, damaged ones included, through reconcile and the independent reader, and compares the bytes.
+
+usage: fuzz.py PROGRAM [LINES [SEED]]"""
+import random
+import subprocess
+import sys
+
+import reference
+
+
+def random_checks(rng, n, m):
+    return [sorted(rng.sample(range(n), rng.randint(1, min(n, 6)))) for _ in range(m)]
+
+
+def matrix_words(rng):
+    n = rng.choice([2, 3, 5, 6, 8, 12, 20])
+    m = rng.randint(1, n - 1)
+    checks = random_checks(rng, n, m)
+    missing = [i for i in range(n) if not any(i in c for c in checks)]
+    if rng.random() < 0.8:
+        for i in missing:
+            k = rng.randrange(m)
+            checks[k] = sorted(set(checks[k] + [i]))
+    positions = [p for c in checks for p in c]
+    ends = [sum(len(c) for c in checks[: k + 1]) for k in range(m)]
+    if rng.random() < 0.4:
+        run = rng.choice([positions, ends])
+        at = rng.randrange(len(run))
+        run[at] = max(0, rng.choice([run[at] + 1, run[at] - 1, 0, n, 40, 65535]))
+    if rng.random() < 0.1:
+        n, m = rng.choice([(n, m + 1), (n + 1, m), (m, m), (0, 0), (2049, m)])
+    spell = lambda run: ",".join(map(str, run)) or "-"
+    return ["matrix", str(rng.randint(1, 4)), str(n), str(m), spell(positions), spell(ends)]
+
+
+def syndrome_words(rng):
+    length = rng.choice([2, 3, 5, 6, 8, 12, 20])
+    key = "".join(rng.choice("0101010101012") for _ in range(length))
+    return ["syndrome", str(rng.randint(1, 5)), key or "-", str(rng.choice([0, 1, 3, 8, 20, 1024, 2**40]))]
+
+
+def damaged(rng, line):
+    data = bytearray(line)
+    for _ in range(rng.randint(1, 3)):
+        kind = rng.randrange(4)
+        at = rng.randrange(len(data) + 1)
+        if kind == 0:
+            data[at:at] = bytes([rng.randrange(256)])
+        elif kind == 1 and at < len(data):
+            del data[at]
+        elif kind == 2 and at < len(data):
+            data[at] = rng.choice(b" ,-0123456789abc#\r\t\xff")
+        elif at < len(data):
+            data[at] ^= 1 << rng.randrange(8)
+    return bytes(data)
+
+
+def script(rng, count):
+    makers = [matrix_words, syndrome_words]
+    lines = []
+    for _ in range(count):
+        line = " ".join(rng.choice(makers)(rng)).encode()
+        if rng.random() < 0.25:
+            line = damaged(rng, line)
+        elif rng.random() < 0.02:
+            line = rng.choice([b"", b"   ", b"# a comment", bytes(rng.randrange(256) for _ in range(rng.randrange(30)))])
+        lines.append(line)
+    return b"\n".join(lines) + rng.choice([b"", b"\n"])
+
+
+def main():
+    program = sys.argv[1]
+    count = int(sys.argv[2]) if len(sys.argv) > 2 else 5000
+    rng = random.Random(int(sys.argv[3]) if len(sys.argv) > 3 else 1)
+    text = script(rng, count)
+    run = subprocess.run([program], input=text, stdout=subprocess.PIPE, check=False)
+    wanted = "".join(line + "\n" for line in reference.replies(text)).encode()
+    if run.returncode != 0 or run.stdout != wanted:
+        got, due = run.stdout.splitlines(), wanted.splitlines()
+        first = next((i for i, (a, b) in enumerate(zip(got, due)) if a != b), min(len(got), len(due)))
+        print(f"status {run.returncode}, line {first} of the output differs", got[first : first + 1], due[first : first + 1])
+        sys.exit(1)
+    print(f"fuzz: {count} lines, {len(wanted.splitlines())} replies, the same bytes")
+
+
+if __name__ == "__main__":
+    main()

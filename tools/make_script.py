@@ -1,0 +1,89 @@
+#!/usr/bin/env python3
+"""Writes the script that ships with the program: the six-position matrix, each refusal, and a published matrix."""
+import pathlib
+
+ROOT = pathlib.Path(__file__).resolve().parent.parent
+BLOCK = 81
+
+
+def published_checks():
+    """The checks of the 1,944-position matrix, from its table of shifts."""
+    text = (ROOT / "data/ieee80211n-1944-rate12.txt").read_text()
+    rows = [line.split() for line in text.splitlines() if line and not line.startswith("#")]
+    return [
+        sorted(c * BLOCK + (i + int(s)) % BLOCK for c, s in enumerate(row) if s != "-")
+        for row in rows
+        for i in range(BLOCK)
+    ]
+
+
+def matrix_line(name, n, checks):
+    ends, total = [], 0
+    for check in checks:
+        total += len(check)
+        ends.append(total)
+    positions = ",".join(str(p) for check in checks for p in check)
+    return f"matrix {name} {n} {len(checks)} {positions} {','.join(map(str, ends))}"
+
+
+def numbers(count):
+    return ",".join(map(str, range(count)))
+
+
+def script():
+    six = "0,1,3,1,2,4,0,2,5"
+    yield "# The matrix on six positions with checks {0,1,3}, {1,2,4}, {0,2,5}, and Alice's key."
+    yield f"matrix 1 6 3 {six} 3,6,9"
+    yield "syndrome 1 101100 3"
+    yield "syndrome 1 101100 99"
+    yield ""
+    yield "# 1: a size or the count of ends is wrong."
+    yield "matrix 2 1 1 0 1"
+    yield f"matrix 2 2049 3 {six} 3,6,9"
+    yield f"matrix 2 6 0 {six} -"
+    yield f"matrix 2 6 6 {six} 3,6,9"
+    yield f"matrix 2 6 4 {six} 3,6,9"
+    yield f"matrix 2 2048 1025 {six} 3,6,9"
+    yield f"matrix 2 6 1 {','.join(['0'] * 8193)} 8193"
+    yield "# 2: a check's end."
+    yield f"matrix 2 6 3 {six} 3,2,9"
+    yield f"matrix 2 6 3 {six} 3,3,9"
+    yield f"matrix 2 6 3 {six} 3,6,8"
+    yield f"matrix 2 6 3 {six} 0,6,9"
+    yield f"matrix 2 40 2 {numbers(33)},33,34 33,35"
+    yield f"matrix 2 32 1 {numbers(32)} 32"
+    yield "# 3: an entry."
+    yield "matrix 2 6 3 0,1,6,1,2,4,0,2,5 3,6,9"
+    yield "matrix 2 6 3 0,1,3,1,1,4,0,2,5 3,6,9"
+    yield "matrix 2 6 3 0,1,3,1,2,4,0,5,2 3,6,9"
+    yield "# 4: a position in no check, or in over 16."
+    yield "matrix 2 7 3 0,1,3,1,2,4,0,2,5 3,6,9"
+    degree = 17
+    yield f"matrix 2 18 17 {','.join(f'0,{i}' for i in range(1, 18))} {','.join(str(2 * k) for k in range(1, degree + 1))}"
+    yield f"matrix 2 17 16 {','.join(f'0,{i}' for i in range(1, 17))} {','.join(str(2 * k) for k in range(1, degree))}"
+    yield "# 9: a key's place; 12: the buffer."
+    yield "syndrome 1 10110 3"
+    yield "syndrome 1 1011000 3"
+    yield "syndrome 1 102100 3"
+    yield "syndrome 1 - 3"
+    yield "syndrome 1 101100 2"
+    yield "syndrome 1 10210 2"
+    yield "# Lines that are not understood."
+    yield "syndrome 9 101100 3"
+    yield "syndrome 1 10x100 3"
+    yield "syndrome 1  101100 3"
+    yield "matrix 4294967296 6 3 0 1"
+    yield "matrix 1 6 3 0,65536 1"
+    yield "matrix 1 6 3 0,,1 2"
+    yield "matrix 1 +6 3 0 1"
+    yield "hello"
+    yield " syndrome 1 101100 3"
+    yield ""
+    yield "# The rate 1/2 matrix of 1,944 positions of IEEE 802.11n, with a key of period 7."
+    n = 24 * BLOCK
+    yield matrix_line(1944, n, published_checks())
+    yield f"syndrome 1944 {''.join('1' if i * i % 7 == 2 else '0' for i in range(n))} 972"
+
+
+if __name__ == "__main__":
+    print("\n".join(script()))
