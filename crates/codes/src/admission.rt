@@ -1,11 +1,12 @@
 ghost use Prim.Native.Nat.{ℕ, _+_, _-_, _<_, _≤_};
 ghost use mathlib.Core.Path.{_≡_};
+ghost use mathlib.Core.List.{List};
 ghost use lib.ListN.{length, getD};
 ghost use Rattle.std.specs.Options.{Cases};
 ghost use Rattle.std.specs.Orderings.{When};
 ghost use Rattle.codes.specs.Places.{AllBelow, FirstFault};
 ghost use Rattle.codes.specs.Code.{start as startOf, end as endOf};
-ghost use Rattle.codes.specs.Admission.{SoundSizes, SoundCheck, Within, SoundEntry, SoundPosition, degree, Admissible, Refused};
+ghost use Rattle.codes.specs.Admission.{SoundSizes, SoundCheck, Within, SoundEntry, SoundPosition, degree, Admissible, Refused, OneRefusal};
 use crate::refusal::MatrixRefusal;
 
 const MOST_POSITIONS: usize = 2048;
@@ -55,6 +56,13 @@ fn count_degrees(positions: &[u16], degrees: &mut [u16])
     }
 }
 
+fn rises_at(positions: &[u16], j: usize) -> bool
+    requires { ⌜ (0 < j) × (j < length (now positions)) ⌝ }
+    ensures { λ r. ⌜ When r (getD (now (positions .entry)) (j - 1) 0 < getD (now (positions .entry)) j 0) (getD (now (positions .entry)) j 0 ≤ getD (now (positions .entry)) (j - 1) 0) ⌝ }
+{
+    positions[j - 1] < positions[j]
+}
+
 // The first entry that is not below `n`, or not above the entry before it in its check.
 fn first_wrong_entry(n: usize, positions: &[u16], ends: &[u16]) -> Option<usize>
     requires some { ⌜ 1 ≤ length (now ends) ⌝ }
@@ -68,7 +76,7 @@ fn first_wrong_entry(n: usize, positions: &[u16], ends: &[u16]) -> Option<usize>
         }
         if ends[check] as usize == j {
             check += 1;
-        } else if j > 0 && positions[j - 1] >= positions[j] {
+        } else if j > 0 && !rises_at(positions, j) {
             return Some(j);
         }
     }
@@ -110,3 +118,8 @@ pub fn matrix_fault(n: usize, m: usize, positions: &[u16], ends: &[u16]) -> Opti
     }
     None
 }
+
+// No two refusals are due at once, and none where the runs are a matrix.
+pub fn one_refusal_is_due()
+    ensures { λ _. ⌜ ((n m : ℕ) (positions ends : List ℕ) → OneRefusal n m positions ends) ⌝ }
+{}

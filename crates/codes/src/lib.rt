@@ -6,6 +6,7 @@ mod refusal;
 mod syndrome;
 
 pub use admission::matrix_fault;
+pub use admission::one_refusal_is_due;
 pub use bits::BeliefBit;
 pub use bits::ByteBit;
 pub use bits::TellsBit;

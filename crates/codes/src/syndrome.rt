@@ -56,7 +56,7 @@ pub fn clear_key(key: &mut [u8])
     ensures zeros { λ _. ⌜ now (key .exit) ≡ replicate (length (now (key .entry))) 0 ⌝ }
     ensures zero_syndrome { λ _. ⌜ ((code : Code) → syndromeOf code (now (key .exit)) ≡ replicate (checksOf code) 0) ⌝ }
 {
-    for b in key.iter_mut() {
-        *b = 0;
+    for place in 0..key.len() {
+        key[place] = 0;
     }
 }

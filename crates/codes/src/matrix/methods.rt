@@ -4,7 +4,7 @@ ghost use mathlib.Core.List.{_++_};
 ghost use lib.ListN.{length, drop};
 ghost use Rattle.std.specs.Of.Vec.{vec-items};
 ghost use Rattle.std.specs.Results.{Cases};
-ghost use Rattle.codes.specs.Admission.{Admissible, Refused, OneRefusal};
+ghost use Rattle.codes.specs.Admission.{Admissible, Refused};
 ghost use Rattle.codes.specs.Code.{Code, checks as checksOf};
 ghost use Rattle.codes.specs.Of.{codeOf};
 ghost use Rattle.codes.specs.Syndrome.{SyndromeRefused, IsKey, syndrome as syndromeOf};
@@ -24,8 +24,7 @@ impl Matrix {
         positions: Vec<u16>,
         ends: Vec<u16>,
     ) -> Result<Matrix, MatrixRefusal>
-        ensures outcome { λ r. ⌜ Cases r (λ x. Admissible n m (vec-items positions) (vec-items ends) × (codeOf x ≡ record { number = number; width = n; positions = vec-items positions; ends = vec-items ends })) (Refused n m (vec-items positions) (vec-items ends)) ⌝ }
-        ensures one { λ _. ⌜ OneRefusal n m (vec-items positions) (vec-items ends) ⌝ }
+        ensures { λ r. ⌜ Cases r (λ x. Admissible n m (vec-items positions) (vec-items ends) × (codeOf x ≡ record { number = number; width = n; positions = vec-items positions; ends = vec-items ends })) (Refused n m (vec-items positions) (vec-items ends)) ⌝ }
     {
         if let Some(fault) = matrix_fault(n, m, positions.as_slice(), ends.as_slice()) {
             return Err(fault);

@@ -9,15 +9,15 @@ use Rattle.codes.specs.Code.{start, end}
 use Rattle.codes.specs.Admission.{Filled, SoundCheck, SoundEntry, Rises}
 use Rattle.codes.proofs.Checks.{next-check, rises-first, rises-next}
 use Rattle.codes.proofs.admission.first_wrong_entry.Needs as need
-use Rattle.codes.proofs.admission.first_wrong_entry.Needs.{then-ends-check, else-ends-check·else-j-gt0, else-j-gt0·by·then-j-gt0·else-positions-j-2, else-j-gt0·by·else-j-gt0}
+use Rattle.codes.proofs.admission.first_wrong_entry.Needs.{then-ends-check, else-ends-check·else-j-gt0, else-j-gt0·by·then-j-gt0·else-not-rises-at, else-j-gt0·by·else-j-gt0}
 
-pub returns-then-positions-j-2 : need.returns-then-positions-j-2
-returns-then-positions-j-2 c =
+pub returns-then-not-rises-at : need.returns-then-not-rises-at
+returns-then-not-rises-at c =
     let j = c .loop-j .j in
     let near : start (c .args .ends .now) (c .loop-j .check) < j = c .loop-j .inv .2 (c .if-j-gt0 .taken) in
     let far : j < end (c .args .ends .now) (c .loop-j .check) = omega (arith, c .loop-j .inv .3, c .if-ends-check .left) in (
       c .loop-j-test .taken,
-      λ sound. omega (arith, sound .1 (c .loop-j .check) (c .loop-j .inv .0, near, far), c .if-positions-j-2 .taken),
+      λ sound. omega (arith, sound .1 (c .loop-j .check) (c .loop-j .inv .0, near, far), c .if-not-rises-at .ensures tt),
       c .loop-j .inv .4,
     )
 
@@ -39,12 +39,12 @@ loop-j-again c =
           let far : j + 1 ≤ end ends (c .loop-j .check) = omega (arith, c .loop-j .inv .3, w .if-ends-check .left) in
           rw (w .check-is)
           (elim (w .else-j-gt0 .came) [
-            | else-j-gt0·by·then-j-gt0·else-positions-j-2 w′ ↦ (
+            | else-j-gt0·by·then-j-gt0·else-not-rises-at w′ ↦ (
               c .loop-j .inv .0,
               omega (arith, c .loop-j .inv .1),
               λ _. omega (arith, c .loop-j .inv .2 (w′ .if-j-gt0 .taken)),
               far,
-              entry (rises-next ends filled ps j (w′ .if-positions-j-2 .left)),
+              entry (rises-next ends filled ps j (w′ .if-not-rises-at .ensures tt)),
             )
             | else-j-gt0·by·else-j-gt0 w′ ↦
                 let zero : start ends (c .loop-j .check) ≤ 0 = omega (arith, c .loop-j .inv .1, w′ .if-j-gt0 .left) in

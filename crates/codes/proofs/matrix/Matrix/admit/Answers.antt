@@ -1,21 +1,18 @@
 use Prim.Native.Nat.{ℕ, _≤_, _<_}
-use mathlib.Core.Path.{_≡_, refl}
+use mathlib.Core.Path.{_≡_}
 use mathlib.Core.List.{List}
 use native.Mathlib.Omega.{arith}
 use lib.ListN.{length}
 use Rattle.std.specs.Of.Vec.{vec-items, vec-len}
-use Rattle.codes.specs.Admission.{Admissible, Refused}
-use Rattle.codes.proofs.Refusals.{one-refusal}
+use Rattle.codes.specs.Admission.{Admissible}
 use Rattle.codes.proofs.matrix.Matrix.admit.Needs as need
-
-admissible : {n m : ℕ} {ps es qs fs : List ℕ} → ps ≡ qs → es ≡ fs → Admissible n m ps es → Admissible n m qs fs
-admissible e f a = rw (← e, ← f) a
 
 pub ghost-result : need.ghost-result
 ghost-result c =
     let ps = vec-items (c .args .positions) in
     let es = vec-items (c .args .ends) in
-    let a = admissible (c .as-slice .ensures .value) (c .as-slice-2 .ensures .value) (c .in-rest .ensures tt) in
+    let a : Admissible (c .args .n) (c .args .m) ps es =
+    rw (c .as-slice .ensures .value, c .as-slice-2 .ensures .value) at (c .in-rest .ensures tt) in
     let e : vec-len (c .args .ends) ≡ c .args .m = omega (arith, c .args .ends .ok .0, a .sizes .2) in
     let p : vec-len (c .args .positions) ≡ length ps = c .args .positions .ok .0 in
     let s = a .sizes .0 in (
@@ -34,12 +31,3 @@ ghost-result c =
         ),
       ),
     )
-
-pub returns-in-Some : need.returns-in-Some
-returns-in-Some c =
-    let due : Refused (c .args .n) (c .args .m) (vec-items (c .args .positions)) (vec-items (c .args .ends)) (c .in-Some .fault) =
-    rw (c .as-slice .ensures .value, c .as-slice-2 .ensures .value) at (c .in-Some .ensures tt) in
-    record { outcome = due; one = one-refusal _ _ _ _ }
-
-pub returns : need.returns
-returns c = record { outcome = (admissible (c .as-slice .ensures .value) (c .as-slice-2 .ensures .value) (c .in-rest .ensures tt), refl); one = one-refusal _ _ _ _ }
