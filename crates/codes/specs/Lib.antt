@@ -6,3 +6,4 @@ pub mod Syndrome
 pub mod Tells
 pub mod Refusals
 pub mod Of
+pub mod Lent

@@ -4,6 +4,8 @@ use Rattle.codes.specs.declared.refusal.MatrixRefusal.{MatrixRefusal}
 use Rattle.codes.specs.declared.refusal.MatrixRefusal.the-variants.{WrongSize, WrongCheck, WrongEntry, WrongPosition}
 use Rattle.codes.specs.declared.refusal.SyndromeRefusal.{SyndromeRefusal}
 use Rattle.codes.specs.declared.refusal.SyndromeRefusal.the-variants.{WrongKey, ShortBuffer}
+use Rattle.codes.specs.declared.refusal.CallRefusal.{CallRefusal}
+use Rattle.codes.specs.declared.refusal.CallRefusal.the-variants.{Matrix, Syndrome}
 
 abbrev pub matrixNumber : MatrixRefusal → ℕ
 matrixNumber WrongSize = 1
@@ -24,3 +26,11 @@ syndromeNumber (ShortBuffer needed) = 12
 abbrev pub syndromePlace : SyndromeRefusal → ℕ
 syndromePlace (WrongKey i) = i
 syndromePlace (ShortBuffer needed) = needed
+
+abbrev pub callNumber : CallRefusal → ℕ
+callNumber (Matrix e) = matrixNumber e
+callNumber (Syndrome e) = syndromeNumber e
+
+abbrev pub callPlace : CallRefusal → ℕ
+callPlace (Matrix e) = matrixPlace e
+callPlace (Syndrome e) = syndromePlace e

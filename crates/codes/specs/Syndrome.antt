@@ -1,10 +1,12 @@
 -- Parities and syndromes. Bits are the numbers 0 and 1, added modulo 2.
-use Prim.Native.Nat.{ℕ, _+_, _%_, _<_, max}
-use mathlib.Core.List.{List, map}
+use Prim.Native.Nat.{ℕ, _+_, _%_, _<_, _≤_, max}
+use mathlib.Core.List.{List, map, _++_}
 use mathlib.Core.Path.{_≡_}
-use lib.ListN.{length, getD}
+use lib.ListN.{length, getD, drop}
 use Rattle.std.specs.Iters.{counting}
 use Rattle.std.specs.shelf.Lists.{sumBy}
+use Rattle.std.specs.declared.result.Result.{Result}
+use Rattle.std.specs.declared.result.Result.the-variants.{Ok, Err}
 use Rattle.codes.specs.Places.{FirstFault}
 use Rattle.codes.specs.Code.{Code, check, checks}
 use Rattle.codes.specs.declared.refusal.SyndromeRefusal.{SyndromeRefusal}
@@ -34,8 +36,14 @@ KeyBit n key i = (i < n) × (i < length key) × (getD key i 0 < 2)
 abbrev pub WrongKeyAt : ℕ → List ℕ → ℕ → Type 0
 WrongKeyAt n key i = FirstFault (KeyBit n key) (max n (length key)) i
 
--- the refusal that is due for a key and a buffer of this length
-abbrev pub SyndromeRefused : Code → List ℕ → ℕ → SyndromeRefusal → Type 0
-SyndromeRefused code key room (WrongKey i) = WrongKeyAt (code .width) key i
-SyndromeRefused code key room (ShortBuffer needed) =
-    IsKey (code .width) key × (room < checks code) × (needed ≡ checks code)
+-- the refusal that is due for a key of n bits and m parities in a buffer of this length
+abbrev pub SyndromeRefused : ℕ → ℕ → List ℕ → ℕ → SyndromeRefusal → Type 0
+SyndromeRefused n m key room (WrongKey i) = WrongKeyAt n key i
+SyndromeRefused n m key room (ShortBuffer needed) = IsKey n key × (room < m) × (needed ≡ m)
+
+-- what asking for a syndrome does: the buffer's front holds it and the rest what it held, or the refusal that is due and no change
+abbrev pub SyndromeGiven : {D : Type 0} → Code → List ℕ → List ℕ → List ℕ → Result D SyndromeRefusal → Type 0
+SyndromeGiven code key out out′ (Ok done) =
+    IsKey (code .width) key × (checks code ≤ length out) × (out′ ≡ syndrome code key ++ drop (checks code) out)
+SyndromeGiven code key out out′ (Err e) =
+    SyndromeRefused (code .width) (checks code) key (length out) e × (out′ ≡ out)

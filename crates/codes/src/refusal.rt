@@ -20,4 +20,11 @@ pub enum SyndromeRefusal {
     ShortBuffer(usize),
 }
 
+// Why a syndrome under lent runs is refused.
+#[derive(Clone, Copy, PartialEq, Eq, Debug)]
+pub enum CallRefusal {
+    Matrix(MatrixRefusal),
+    Syndrome(SyndromeRefusal),
+}
+
 mod methods;

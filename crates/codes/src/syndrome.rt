@@ -7,12 +7,16 @@ ghost use Rattle.std.specs.Iters.{counting};
 ghost use Rattle.codes.specs.Places.{AllBelow};
 ghost use Rattle.codes.specs.Code.{Code, checks as checksOf, checkIn};
 ghost use Rattle.codes.specs.Admission.{SoundCheck};
-ghost use Rattle.codes.specs.Syndrome.{IsKey, WrongKeyAt, parity as parityOf, syndrome as syndromeOf, added};
+ghost use Rattle.codes.specs.Lent.{lent, LentSyndrome};
+ghost use Rattle.codes.specs.Syndrome.{IsKey, WrongKeyAt, SyndromeGiven, parity as parityOf, syndrome as syndromeOf, added};
+use crate::admission::matrix_fault;
 use crate::bits::ByteBit;
 use crate::bits::parity;
+use crate::refusal::CallRefusal;
+use crate::refusal::SyndromeRefusal;
 
 // The first place that is missing, extra, or neither 0 nor 1.
-pub(crate) fn key_fault(n: usize, key: &[u8]) -> Option<usize>
+fn key_fault(n: usize, key: &[u8]) -> Option<usize>
     ensures { λ r. ⌜ Cases r (IsKey n (now (key .entry))) (WrongKeyAt n (now (key .entry))) ⌝ }
 {
     for (i, b) in key.iter().enumerate() {
@@ -26,7 +30,7 @@ pub(crate) fn key_fault(n: usize, key: &[u8]) -> Option<usize>
     if key.len() < n { Some(key.len()) } else { None }
 }
 
-pub(crate) fn fill_syndrome(positions: &[u16], ends: &[u16], key: &[u8], out: &mut [u8])
+fn fill_syndrome(positions: &[u16], ends: &[u16], key: &[u8], out: &mut [u8])
     requires checks { ⌜ AllBelow (SoundCheck (now positions) (now ends)) (length (now ends)) ⌝ }
     requires bits { ⌜ AllBelow (λ i. getD (now key) i 0 < 2) (length (now key)) ⌝ }
     requires long { ⌜ length (now out) ≡ length (now ends) ⌝ }
@@ -37,6 +41,47 @@ pub(crate) fn fill_syndrome(positions: &[u16], ends: &[u16], key: &[u8], out: &m
         let end = *e as usize;
         out[k] = parity(key, &positions[start..end]);
         start = end;
+    }
+}
+
+pub(crate) fn write_syndrome(
+    n: usize,
+    positions: &[u16],
+    ends: &[u16],
+    key: &[u8],
+    out: &mut [u8],
+) -> Result<(), SyndromeRefusal>
+    requires { ⌜ AllBelow (SoundCheck (now positions) (now ends)) (length (now ends)) ⌝ }
+    ensures { λ r. ⌜ SyndromeGiven (lent n (now (positions .entry)) (now (ends .entry))) (now (key .entry)) (now (out .entry)) (now (out .exit)) r ⌝ }
+{
+    if let Some(i) = key_fault(n, key) {
+        return Err(SyndromeRefusal::WrongKey(i));
+    }
+    let m = ends.len();
+    if out.len() < m {
+        return Err(SyndromeRefusal::ShortBuffer(m));
+    }
+    fill_syndrome(positions, ends, key, &mut out[0..m]);
+    Ok(())
+}
+
+// The syndrome under runs that are only lent: they are tested as admission tests them, before the key and the buffer.
+pub fn syndrome_of(
+    n: usize,
+    m: usize,
+    positions: &[u16],
+    ends: &[u16],
+    key: &[u8],
+    out: &mut [u8],
+) -> Result<(), CallRefusal>
+    ensures { λ r. ⌜ LentSyndrome n m (now (positions .entry)) (now (ends .entry)) (now (key .entry)) (now (out .entry)) (now (out .exit)) r ⌝ }
+{
+    if let Some(fault) = matrix_fault(n, m, positions, ends) {
+        return Err(CallRefusal::Matrix(fault));
+    }
+    match write_syndrome(n, positions, ends, key, out) {
+        Ok(()) => Ok(()),
+        Err(refusal) => Err(CallRefusal::Syndrome(refusal)),
     }
 }
 

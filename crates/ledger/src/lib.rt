@@ -4,6 +4,7 @@ mod ledger;
 mod line;
 mod note;
 
+pub use booking::book_in;
 pub use booking::joint_totals;
 pub use ledger::Ledger;
 pub use line::Line;

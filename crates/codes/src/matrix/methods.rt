@@ -1,19 +1,15 @@
-ghost use Prim.Native.Nat.{_≤_};
 ghost use mathlib.Core.Path.{_≡_};
-ghost use mathlib.Core.List.{_++_};
-ghost use lib.ListN.{length, drop};
 ghost use Rattle.std.specs.Of.Vec.{vec-items};
 ghost use Rattle.std.specs.Results.{Cases};
 ghost use Rattle.codes.specs.Admission.{Admissible, Refused};
-ghost use Rattle.codes.specs.Code.{Code, checks as checksOf};
+ghost use Rattle.codes.specs.Code.{checks as checksOf};
 ghost use Rattle.codes.specs.Of.{codeOf};
-ghost use Rattle.codes.specs.Syndrome.{SyndromeRefused, IsKey, syndrome as syndromeOf};
+ghost use Rattle.codes.specs.Syndrome.{SyndromeGiven};
 use super::Matrix;
 use crate::admission::matrix_fault;
 use crate::refusal::MatrixRefusal;
 use crate::refusal::SyndromeRefusal;
-use crate::syndrome::fill_syndrome;
-use crate::syndrome::key_fault;
+use crate::syndrome::write_syndrome;
 
 impl Matrix {
     // Takes over the two runs of an admissible matrix of `n` positions and `m` checks.
@@ -73,16 +69,8 @@ impl Matrix {
 
     // Writes one parity a check to the front of the buffer.
     pub fn syndrome(&self, key: &[u8], out: &mut [u8]) -> Result<(), SyndromeRefusal>
-        ensures { λ r. ⌜ Cases r (λ _. IsKey (now (self .entry) .width) (now (key .entry)) × (checksOf (codeOf (now (self .entry))) ≤ length (now (out .entry))) × (now (out .exit) ≡ syndromeOf (codeOf (now (self .entry))) (now (key .entry)) ++ drop (checksOf (codeOf (now (self .entry)))) (now (out .entry)))) (λ e. SyndromeRefused (codeOf (now (self .entry))) (now (key .entry)) (length (now (out .entry))) e × (now (out .exit) ≡ now (out .entry))) ⌝ }
+        ensures { λ r. ⌜ SyndromeGiven (codeOf (now (self .entry))) (now (key .entry)) (now (out .entry)) (now (out .exit)) r ⌝ }
     {
-        if let Some(i) = key_fault(self.width, key) {
-            return Err(SyndromeRefusal::WrongKey(i));
-        }
-        let m = self.ends.len();
-        if out.len() < m {
-            return Err(SyndromeRefusal::ShortBuffer(m));
-        }
-        fill_syndrome(self.positions(), self.ends(), key, &mut out[0..m]);
-        Ok(())
+        write_syndrome(self.width, self.positions(), self.ends(), key, out)
     }
 }

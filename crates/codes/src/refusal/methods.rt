@@ -1,5 +1,6 @@
 ghost use mathlib.Core.Path.{_≡_};
-ghost use Rattle.codes.specs.Refusals.{matrixNumber, matrixPlace, syndromeNumber, syndromePlace};
+ghost use Rattle.codes.specs.Refusals.{matrixNumber, matrixPlace, syndromeNumber, syndromePlace, callNumber, callPlace};
+use super::CallRefusal;
 use super::MatrixRefusal;
 use super::SyndromeRefusal;
 
@@ -45,6 +46,26 @@ impl SyndromeRefusal {
         match self {
             SyndromeRefusal::WrongKey(i) => i,
             SyndromeRefusal::ShortBuffer(needed) => needed,
+        }
+    }
+}
+
+impl CallRefusal {
+    pub fn number(self) -> u8
+        ensures { λ r. ⌜ r ≡ callNumber self ⌝ }
+    {
+        match self {
+            CallRefusal::Matrix(refusal) => refusal.number(),
+            CallRefusal::Syndrome(refusal) => refusal.number(),
+        }
+    }
+
+    pub fn place(self) -> usize
+        ensures { λ r. ⌜ r ≡ callPlace self ⌝ }
+    {
+        match self {
+            CallRefusal::Matrix(refusal) => refusal.place(),
+            CallRefusal::Syndrome(refusal) => refusal.place(),
         }
     }
 }

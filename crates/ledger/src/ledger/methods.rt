@@ -64,7 +64,9 @@ impl<'a> Ledger<'a> {
 
 // What a line adds to the totals: nothing unless it settled.
 fn settled_part(line: &Line) -> Totals
-    ensures { λ r. ⌜ (r .raw ≡ settledRaw (now (line .entry))) × (r .leak ≡ settledLeak (now (line .entry))) ⌝ }
+    ensures raw { λ r. ⌜ r .raw ≡ settledRaw (now (line .entry)) ⌝ }
+    ensures leak { λ r. ⌜ r .leak ≡ settledLeak (now (line .entry)) ⌝ }
+    ensures bound { λ r. ⌜ (r .raw < 2 ^ 32) × (r .leak < 2 ^ 32) ⌝ }
 {
     match line.outcome {
         Outcome::Settled => Totals {
