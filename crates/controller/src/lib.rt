@@ -1,0 +1,8 @@
+// The functions that the link controller, a C program, calls: numbers and byte slices in, a reply of plain numbers out.
+mod matrix;
+mod reply;
+mod run;
+
+pub use matrix::reconcile_admit_matrix;
+pub use matrix::reconcile_syndrome;
+pub use reply::Reply;
