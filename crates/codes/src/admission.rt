@@ -11,6 +11,8 @@ use crate::refusal::MatrixRefusal;
 
 const MOST_POSITIONS: usize = 2048;
 
+const MOST_CHECKS_HELD: u16 = 16;
+
 fn sizes_are_sound(n: usize, m: usize, positions: &[u16], ends: &[u16]) -> bool
     ensures { λ r. ⌜ When r (SoundSizes n m (now (positions .entry)) (now (ends .entry))) (SoundSizes n m (now (positions .entry)) (now (ends .entry)) → ⊥) ⌝ }
 {
@@ -93,7 +95,7 @@ fn first_wrong_position(n: usize, positions: &[u16]) -> Option<usize>
     let mut degrees = [0u16; MOST_POSITIONS];
     count_degrees(positions, &mut degrees);
     for i in 0..n {
-        if degrees[i] < 1 || degrees[i] > 16 {
+        if degrees[i] < 1 || degrees[i] > MOST_CHECKS_HELD {
             return Some(i);
         }
     }

@@ -19,4 +19,4 @@ loop-i-again c =
     let low : i < 2048 = omega (arith, c .pre .width) in
     let e = c .count-degrees .ensures i low in
     below-more (SoundPosition (c .args .positions .now)) i (c .loop-i .inv)
-    (omega (arith, e, c .if-degrees-i-lt1 .left), omega (arith, e, c .if-degrees-i-gt16 .left))
+    (omega (arith, e, c .if-degrees-i-lt1 .left), omega (arith, e, c .if-degrees-i-gt-MOST-CHECKS-HELD .left))
