@@ -2,7 +2,10 @@
 use crate::command::Command;
 use crate::command::read_command;
 use crate::words::spell_bits;
+use crate::words::spell_run;
 use codes::Matrix;
+use frames::Frame;
+use frames::read;
 use std::alloc::AllocError;
 use std::alloc::Global;
 use std::collections::BTreeMap;
@@ -34,6 +37,7 @@ impl Desk {
                 ends,
             ),
             Some(Command::Syndrome(id, key, room)) => self.syndrome(heap, id, key.as_slice(), room),
+            Some(Command::Frame(n, m, bytes)) => frame(heap, n, m, bytes.as_slice()),
             None => Ok(None),
         }
     }
@@ -87,6 +91,45 @@ impl Desk {
                 let place = refusal.place();
                 Ok(Some(format!(heap, "syndrome refused {number} {place}")?))
             }
+        }
+    }
+}
+
+fn frame(heap: Global, n: usize, m: usize, bytes: &[u8]) -> Result<Option<String>, AllocError> {
+    match read(n, m, bytes) {
+        Ok(Frame::Syndrome { side, block, bits }) => {
+            let side = side.number();
+            let bits = spell_run(heap, &bits)?;
+            Ok(Some(
+                format!(
+                    heap,
+                    "frame syndrome side {side} block {block} round 0 bits {bits}"
+                )?,
+            ))
+        }
+        Ok(
+            Frame::Disclosure {
+                side,
+                block,
+                round,
+                map,
+                values,
+            },
+        ) => {
+            let side = side.number();
+            let map = spell_run(heap, &map)?;
+            let values = spell_run(heap, &values)?;
+            Ok(Some(
+                format!(
+                    heap,
+                    "frame disclosure side {side} block {block} round {round} map {map} values {values}"
+                )?,
+            ))
+        }
+        Err(refusal) => {
+            let number = refusal.number();
+            let place = refusal.place();
+            Ok(Some(format!(heap, "frame refused {number} {place}")?))
         }
     }
 }

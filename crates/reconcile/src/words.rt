@@ -1,4 +1,5 @@
 // The words of a script line: numbers, runs of numbers, digits.
+use runs::Run;
 use std::alloc::AllocError;
 use std::alloc::Global;
 
@@ -57,11 +58,50 @@ pub fn digits(heap: Global, word: &str) -> Result<Option<Vec<u8>>, AllocError> {
     Ok(Some(places))
 }
 
+fn hex_digit(b: u8) -> Option<u8> {
+    match b {
+        b'0'..=b'9' => Some(b - b'0'),
+        b'a'..=b'f' => Some(b - b'a' + 10),
+        _ => None,
+    }
+}
+
+// Two hexadecimal digits a byte, in lower case; no bytes are a dash.
+pub fn hexadecimal(heap: Global, word: &str) -> Result<Option<Vec<u8>>, AllocError> {
+    let mut bytes = Vec::new(heap);
+    if word == "-" {
+        return Ok(Some(bytes));
+    }
+    let text = word.as_bytes();
+    if text.is_empty() || text.len() % 2 != 0 {
+        return Ok(None);
+    }
+    for k in 0..text.len() / 2 {
+        match (hex_digit(text[2 * k]), hex_digit(text[2 * k + 1])) {
+            (Some(high), Some(low)) => bytes.push(high.wrapping_mul(16) | low)?,
+            _ => return Ok(None),
+        }
+    }
+    Ok(Some(bytes))
+}
+
 // Bits as digits.
 pub fn spell_bits(heap: Global, bits: &[u8]) -> Result<String, AllocError> {
     let mut text = String::new(heap);
     for b in bits {
         text.push(if *b == 0 { '0' } else { '1' })?;
+    }
+    Ok(text)
+}
+
+// The bits of a frame's run as digits; the empty run is a dash.
+pub fn spell_run(heap: Global, run: &Run<'_>) -> Result<String, AllocError> {
+    let mut text = String::new(heap);
+    for i in 0..run.len() {
+        text.push(if run.bit(i) == 0 { '0' } else { '1' })?;
+    }
+    if run.len() == 0 {
+        text.push('-')?;
     }
     Ok(text)
 }
