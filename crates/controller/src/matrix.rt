@@ -28,14 +28,8 @@ fn matrix_reply(n: usize, m: usize, positions: &[u16], ends: &[u16]) -> Reply
     ensures { λ r. ⌜ MatrixTold n m (now (positions .entry)) (now (ends .entry)) r ⌝ }
 {
     match matrix_fault(n, m, positions, ends) {
-        None => Reply {
-            number: 0,
-            place: 0,
-        },
-        Some(refusal) => Reply {
-            number: refusal.number() as u32,
-            place: refusal.place(),
-        },
+        None => Reply::of(0, 0),
+        Some(refusal) => Reply::of(refusal.number(), refusal.place()),
     }
 }
 
@@ -50,14 +44,8 @@ fn syndrome_reply(
     ensures { λ r. ⌜ SyndromeTold n m (now (positions .entry)) (now (ends .entry)) (now (key .entry)) (now (out .entry)) (now (out .exit)) r ⌝ }
 {
     match syndrome_of(n, m, positions, ends, key, out) {
-        Ok(()) => Reply {
-            number: 0,
-            place: 0,
-        },
-        Err(refusal) => Reply {
-            number: refusal.number() as u32,
-            place: refusal.place(),
-        },
+        Ok(()) => Reply::of(0, 0),
+        Err(refusal) => Reply::of(refusal.number(), refusal.place()),
     }
 }
 
@@ -67,10 +55,7 @@ pub extern "C" fn reconcile_admit_matrix(n: usize, m: usize, positions: &[u8], e
     ensures { λ r. ⌜ AdmitReplies n m (now (positions .entry)) (now (ends .entry)) r ⌝ }
 {
     if !may_be_runs(positions, ends) {
-        return Reply {
-            number: 1,
-            place: 0,
-        };
+        return Reply::of(1, 0);
     }
     let mut position_run = [0u16; MOST_ENTRIES];
     let mut end_run = [0u16; MOST_CHECKS];
@@ -94,10 +79,7 @@ pub extern "C" fn reconcile_syndrome(
     ensures { λ r. ⌜ SyndromeReplies n m (now (positions .entry)) (now (ends .entry)) (now (key .entry)) (now (out .entry)) (now (out .exit)) r ⌝ }
 {
     if !may_be_runs(positions, ends) {
-        return Reply {
-            number: 1,
-            place: 0,
-        };
+        return Reply::of(1, 0);
     }
     let mut position_run = [0u16; MOST_ENTRIES];
     let mut end_run = [0u16; MOST_CHECKS];

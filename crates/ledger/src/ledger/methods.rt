@@ -31,7 +31,8 @@ impl<'a> Ledger<'a> {
     pub fn used(&self) -> usize
         ensures { λ r. ⌜ r ≡ now (self .entry) .used ⌝ }
     {
-        self.used
+        let Ledger { used, .. } = self;
+        *used
     }
 
     // Books the note as the next line, or hands it back where the ledger is full.

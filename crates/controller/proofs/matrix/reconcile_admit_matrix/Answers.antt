@@ -1,6 +1,5 @@
 use Prim.Native.Nat.{_/_}
 use lib.ListN.{length}
-use mathlib.Core.Path.{refl}
 use mathlib.Core.Logic.{inr}
 use Rattle.codes.specs.declared.refusal.MatrixRefusal.the-variants.{WrongSize}
 use Rattle.controller.specs.Runs.{numbers16}
@@ -9,8 +8,8 @@ use Rattle.controller.proofs.matrix.reconcile_admit_matrix.Needs as need
 
 pub returns-then-not-may-be-runs : need.returns-then-not-may-be-runs
 returns-then-not-may-be-runs c = (
-  λ _. refl,
-  λ w. inr (WrongSize, too-long (c .args .n) (c .args .m) _ _ (c .if-not-may-be-runs .ensures tt) w, refl),
+  λ _. c .of .ensures,
+  λ w. inr (WrongSize, too-long (c .args .n) (c .args .m) _ _ (c .if-not-may-be-runs .ensures tt) w, c .of .ensures),
 )
 
 pub returns : need.returns

@@ -10,8 +10,8 @@ use Rattle.controller.proofs.matrix.reconcile_syndrome.Needs as need
 
 pub returns-then-not-may-be-runs : need.returns-then-not-may-be-runs
 returns-then-not-may-be-runs c = (
-  λ _. (refl, refl),
-  λ w. inr (Matrix WrongSize, (too-long (c .args .n) (c .args .m) _ _ (c .if-not-may-be-runs .ensures tt) w, refl), refl),
+  λ _. (c .of .ensures, refl),
+  λ w. inr (Matrix WrongSize, (too-long (c .args .n) (c .args .m) _ _ (c .if-not-may-be-runs .ensures tt) w, refl), c .of .ensures),
 )
 
 pub returns : need.returns

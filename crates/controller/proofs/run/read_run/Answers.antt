@@ -10,8 +10,10 @@ use Rattle.controller.proofs.run.read_run.Needs as need
 
 pub loop-i-again : need.loop-i-again
 loop-i-again c =
-    fill-by-more (λ k. getD (c .args .bytes .now) (2 * k) 0 * 256 + getD (c .args .bytes .now) (2 * k + 1) 0) (c .loop-i .out)
-    (c .loop-i .i) 0 (omega (arith, c .loop-i .kept .out, c .pre .room, c .loop-i-test .taken)) (c .loop-i .inv)
+    let f : ℕ → ℕ = λ k. getD (c .args .bytes .now) (2 * k) 0 * 256 + getD (c .args .bytes .now) (2 * k + 1) 0 in
+    rw (c .number-at .ensures)
+    (fill-by-more f (c .loop-i .out) (c .loop-i .i) 0 (omega (arith, c .loop-i .kept .out, c .pre .room, c .loop-i-test .taken))
+    (c .loop-i .inv))
 
 pub returns : need.returns
 unfolding numbers16
