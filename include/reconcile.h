@@ -37,6 +37,26 @@ struct reconcile_reply reconcile_syndrome(size_t n, size_t m, const uint8_t *pos
                                           const uint8_t *ends, size_t ends_length, const uint8_t *key,
                                           size_t key_length, uint8_t *out, size_t out_length);
 
+/* What bytes are read as. number 0: a frame. `first` is the run of syndrome bits (kind 1) or the map of positions
+ * (kind 2), `second` the values of a disclosure, empty for kind 1; each begins at byte `_at` of the bytes handed in and
+ * has `_bits` bits, packed from the highest bit of a byte on. Otherwise the refusal's number and place, and zeros. */
+struct reconcile_frame {
+    uint32_t number;
+    size_t place;
+    uint8_t kind;
+    uint8_t side;
+    uint16_t round;
+    uint32_t block;
+    size_t first_at;
+    size_t first_bits;
+    size_t second_at;
+    size_t second_bits;
+};
+
+/* Reads a frame of a matrix with n positions and m checks. Nothing is copied.
+ * Refused: 1 n or m is outside its limits; 13 the first byte at fault from the left (the byte). */
+struct reconcile_frame reconcile_read_frame(size_t n, size_t m, const uint8_t *bytes, size_t bytes_length);
+
 #ifdef __cplusplus
 }
 #endif

@@ -1,4 +1,4 @@
-/* What a link controller does with the library: admit a matrix, publish a key's syndrome. */
+/* What a link controller does with the library: admit a matrix, publish a key's syndrome, read a frame. */
 #include "reconcile.h"
 
 #include <stdio.h>
@@ -21,5 +21,13 @@ int main(void) {
     reply = reconcile_syndrome(6, 3, positions, sizeof positions, ends, sizeof ends, key, 5, syndrome,
                                sizeof syndrome);
     printf("short key: number %u place %zu\n", reply.number, reply.place);
+
+    const uint8_t frame[] = {0x01, 0x00, 0x00, 0x00, 0x00, 0x07, 0x00, 0x00, 0x40};
+    struct reconcile_frame read = reconcile_read_frame(6, 3, frame, sizeof frame);
+    printf("frame: number %u kind %u side %u block %u round %u, %zu bits at byte %zu\n", read.number, read.kind,
+           read.side, read.block, read.round, read.first_bits, read.first_at);
+
+    read = reconcile_read_frame(6, 3, frame, sizeof frame - 1);
+    printf("cut frame: number %u place %zu\n", read.number, read.place);
     return 0;
 }
