@@ -52,16 +52,16 @@ bytes-tell (b ∷ key) h =
     cc
 
 -- a syndrome bit is its check's parity
-syndrome-at : (code : Code) (key : List ℕ) (k : ℕ) → k < checks code → getD (syndrome code key) k 0 ≡ parity key (check code k)
+pub syndrome-at : (code : Code) (key : List ℕ) (k : ℕ) → k < checks code → getD (syndrome code key) k 0 ≡ parity key (check code k)
 syndrome-at code key k h = getD-map-counting (λ j. parity key (check code j)) 0 (checks code) k k 0 h (omega arith)
 
-syndrome-length : (code : Code) (key : List ℕ) → length (syndrome code key) ≡ checks code
+pub syndrome-length : (code : Code) (key : List ℕ) → length (syndrome code key) ≡ checks code
 syndrome-length code key = length-map-counting (λ j. parity key (check code j)) 0 (checks code)
 
-same-mod : (a b c d : ℕ) → a % 2 ≡ c % 2 → b % 2 ≡ d % 2 → (a + b) % 2 ≡ (c + d) % 2
+pub same-mod : (a b c d : ℕ) → a % 2 ≡ c % 2 → b % 2 ≡ d % 2 → (a + b) % 2 ≡ (c + d) % 2
 same-mod a b c d e f = omega arith
 
-mod-mod : (a : ℕ) → (a % 2) % 2 ≡ a % 2
+pub mod-mod : (a : ℕ) → (a % 2) % 2 ≡ a % 2
 mod-mod a = omega arith
 
 add-bits : (x y z s t u : ℕ) → x ≡ (y + z) % 2 → s % 2 ≡ (t % 2 + u % 2) % 2 → (x + s) % 2 ≡ ((y + t) % 2 + (z + u) % 2) % 2
@@ -73,7 +73,7 @@ add-bits x y z s t u e f =
     left ∙ ap (λ n. n % 2) middle ∙ sym right
 
 module _ (a b : List ℕ) (fits : length b ≤ length a) where
-  added-at : (p : ℕ) → getD (added a b) p 0 ≡ (getD a p 0 + getD b p 0) % 2
+  pub added-at : (p : ℕ) → getD (added a b) p 0 ≡ (getD a p 0 + getD b p 0) % 2
   added-at p =
       ⊎-elim (λ h. getD-map-counting (λ i. (getD a i 0 + getD b i 0) % 2) 0 (length a) p p 0 h (omega arith))
       (λ past.
@@ -82,7 +82,7 @@ module _ (a b : List ℕ) (fits : length b ≤ length a) where
       omega (arith, getD-past (added a b) p 0 l, getD-past a p 0 past, getD-past b p 0 m))
       (cases-lt p (length a))
 
-  parity-added : (ps : List ℕ) → parity (added a b) ps ≡ (parity a ps + parity b ps) % 2
+  pub parity-added : (ps : List ℕ) → parity (added a b) ps ≡ (parity a ps + parity b ps) % 2
   parity-added [] = refl
   parity-added (p ∷ ps) =
       rw (sumBy-cons (λ i. getD (added a b) i 0) p ps, sumBy-cons (λ i. getD a i 0) p ps, sumBy-cons (λ i. getD b i 0) p ps)
