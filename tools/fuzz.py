@@ -6,6 +6,7 @@ import random
 import subprocess
 import sys
 
+import frame_reader
 import reference
 
 
@@ -40,6 +41,37 @@ def syndrome_words(rng):
     return ["syndrome", str(rng.randint(1, 5)), key or "-", str(rng.choice([0, 1, 3, 8, 20, 1024, 2**40]))]
 
 
+def frame_maker(rng):
+    frames = frame_reader.cases(rng)
+    return lambda _: frame_reader.line(*next(frames)).split(" ")
+
+
+def tables_words(rng):
+    mf, ma = rng.randint(1, 12), rng.randint(1, 12)
+    falling = lambda count, most: sorted((rng.randint(0, most) for _ in range(count)), reverse=True)
+    f2a, a2f, raw = falling(mf, ma), falling(ma, mf), [rng.randint(1, mf) for _ in range(12)]
+    if rng.random() < 0.2:
+        run = rng.choice([f2a, a2f, raw])
+        run[rng.randrange(len(run))] += rng.choice([1, 5, 20])
+    if rng.random() < 0.05:
+        rng.choice([f2a, a2f, raw]).pop()
+    spell = lambda run: ",".join(map(str, run)) or "-"
+    return ["tables", spell(f2a), spell(a2f), spell(raw)]
+
+
+def decoder_words(rng):
+    pairs = [(rng.choice(["offset", "table", "flipping"]), rng.choice([0, 1, 2, 3, 8, 64, 65, 3000, 2**33])) for _ in range(rng.randint(1, 3))]
+    return ["decoder"] + [str(word) for pair in pairs for word in pair]
+
+
+def decode_words(rng):
+    n = rng.choice([2, 3, 5, 6, 8, 12, 20])
+    bits = "".join(rng.choice("0001") for _ in range(rng.choice([n, n, n, 3]))) or "-"
+    states = "".join(rng.choice("rrrrrrp01") for _ in range(rng.choice([n, n, n, n + 1])))
+    sizes = [rng.choice([20, 2048, 20, 3]) for _ in range(2)] + [rng.choice([200, 16384, 10**12, 30])]
+    return ["decode", str(rng.randint(1, 5)), bits, states, str(rng.choice([0, 1, 5, 12, 13, 300]))] + [str(x) for x in sizes]
+
+
 def damaged(rng, line):
     data = bytearray(line)
     for _ in range(rng.randint(1, 3)):
@@ -57,7 +89,7 @@ def damaged(rng, line):
 
 
 def script(rng, count):
-    makers = [matrix_words, syndrome_words]
+    makers = [matrix_words, syndrome_words, frame_maker(rng), tables_words, decoder_words, decode_words, decode_words]
     lines = []
     for _ in range(count):
         line = " ".join(rng.choice(makers)(rng)).encode()

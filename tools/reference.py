@@ -4,6 +4,8 @@
 Reads a script from standard input or the named file and prints what reconcile must print."""
 import sys
 
+import frame_reader
+
 NUMBER_BITS = {"u16": 16, "u32": 32, "size": 64}
 
 
@@ -36,6 +38,14 @@ def digits(word):
     if not word or any(c not in "0123456789" for c in word):
         raise NotUnderstood
     return [int(c) for c in word]
+
+
+def hexadecimal(word):
+    if word == "-":
+        return b""
+    if not word or len(word) % 2 or any(c not in "0123456789abcdef" for c in word):
+        raise NotUnderstood
+    return bytes.fromhex(word)
 
 
 def spell(bits):
@@ -274,10 +284,14 @@ class Desk:
         key, room = digits(key), number(room, "size")
         return "syndrome " + spell(syndrome(self.kept_matrix(id_word), key, room))
 
+    def frame(self, n, m, data):
+        return frame_reader.read(number(n, "size"), number(m, "size"), hexadecimal(data))
+
     # each command's words, None for a count of its own
     COMMANDS = {
         "matrix": (matrix, 5),
         "syndrome": (syndrome, 3),
+        "frame": (frame, 3),
         "tables": (tables, 3),
         "decoder": (decoder, None),
         "decode": (decode, 7),

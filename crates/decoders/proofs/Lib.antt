@@ -1,0 +1,5 @@
+pub mod Sound
+pub mod Fits
+pub mod Lengths
+pub mod Piles
+pub mod Alike

@@ -1,3 +1,5 @@
 pub mod Question
 pub mod Fit
 pub mod Decoding
+pub mod Refusals
+pub mod Pile

@@ -20,12 +20,16 @@ pub record Answer : Type 0 where
   pub pattern : List ℕ
   pub confidence : List ℕ
 
--- the question that a call asks: of longer runs the front counts, a byte over 1 is 1, a class out of range is the nearer end
+-- a difference byte over 1 counts as 1
+abbrev pub bitOf : ℕ → ℕ
+bitOf b = min b 1
+
+-- the question that a call asks: of longer runs the front counts, a class out of range is the nearer end
 unfoldable pub asked : Code → List ℕ → List State → ℕ → Question
 asked code difference states q =
     record {
       code = code;
-      difference = map (λ b. min b 1) (take (checks code) difference);
+      difference = map bitOf (take (checks code) difference);
       states = take (code .width) states;
       class = min (max q 1) 12;
     }

@@ -17,7 +17,8 @@ pub trait Decoder {
     // How many working words it needs for this matrix.
     fn need(&self, matrix: &Matrix) -> usize
         ensures value { λ r. ⌜ r ≡ roomFor (room (now (self .entry))) (codeOf (now (matrix .entry))) ⌝ }
-        ensures bound { λ r. ⌜ r ≤ 16384 ⌝ };
+        ensures bound { λ r. ⌜ r ≤ 16384 ⌝ }
+        ensures formed { λ _. ⌜ Formed (rule (now (self .entry))) ⌝ };
 
     // Writes the answer to the fronts of pattern and confidence; the working memory may hold anything before and after.
     fn decode(

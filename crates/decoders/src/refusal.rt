@@ -4,3 +4,5 @@ pub enum DecoderRefusal {
     // A run, a buffer or the working memory is short.
     ShortBuffer,
 }
+
+mod methods;

@@ -6,3 +6,5 @@ pub enum State {
     Known0,
     Known1,
 }
+
+mod methods;

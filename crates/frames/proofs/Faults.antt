@@ -1,9 +1,9 @@
 -- From what the reader finds, part after part, to what the bytes are read as.
-use Prim.Native.Nat.{ℕ, _+_, _-_, _*_, _%_, _^_, _<_, _≤_, max}
+use Prim.Native.Nat.{ℕ, _+_, _-_, _<_, _≤_, max}
 use mathlib.Core.Path.{_≡_, refl, sym, ap, subst, _∙_}
-use mathlib.Core.Bool.{Bool, true, false, cond, _&&_, _||_}
-use mathlib.Core.Logic.{_⊎_, inl, inr, ⊎-elim}
-use mathlib.Core.List.{List, [], _∷_}
+use mathlib.Core.Bool.{true, false, cond, _||_}
+use mathlib.Core.Logic.{_⊎_, ⊎-elim}
+use mathlib.Core.List.{List}
 use native.Mathlib.Omega.{arith}
 use lib.Dec.{eqb, ltb, lit<}
 use lib.ListN.{length, getD, take, drop}
@@ -12,16 +12,16 @@ use Rattle.std.proofs.shelf.Lists.{length-drop}
 use Rattle.std.proofs.shelf.Tests.{cases-lt, both-ways, ltb-true, eqb-true, lt-ltb, le-ltb, eq-eqb, ne-eqb, cond-true, cond-false, or-right, or-left, or-from}
 use Rattle.std.specs.declared.result.Result.the-variants.{Ok, Err}
 use Rattle.codes.specs.Places.{AllBelow, FirstFault}
-use Rattle.runs.specs.Bits.{bytesFor, unpacked, unused, SoundByte, SoundLast}
+use Rattle.runs.specs.Bits.{bytesFor, unpacked, SoundByte, SoundLast}
 use Rattle.runs.proofs.Packed.{long-enough, unpacked-take}
 use Rattle.runs.proofs.Bytes.{octal}
 use Rattle.frames.specs.declared.side.Side.{Side}
 use Rattle.frames.specs.declared.side.Side.the-variants.{Alice, Bob}
 use Rattle.frames.specs.Numbers.{sideNumber}
 use Rattle.frames.specs.Shape.{syndromeFrame, disclosureFrame}
-use Rattle.frames.specs.Reading.{Head, blockIn, kindIn, sideIn, roundIn, mapIn, valueBytes, frameIn, frameLength, headTests, clearTest, bodyTest, rightByte, outcome, readShape}
+use Rattle.frames.specs.Reading.{Head, kindIn, sideIn, roundIn, mapIn, valueBytes, frameIn, frameLength, headTests, clearTest, bodyTest, rightByte, outcome, readShape}
 use Rattle.frames.specs.declared.refusal.Refusal.the-variants.{WrongByte}
-use Rattle.frames.proofs.Firsts.{not-true, three, three-parts, none-wrong, first-wrong, all-right}
+use Rattle.frames.proofs.Firsts.{three, three-parts, none-wrong, first-wrong}
 
 abbrev pub span : ℕ → ℕ → List ℕ → ℕ
 span n m bytes = max (length bytes) (frameLength n m bytes)

@@ -1,8 +1,8 @@
 -- What is written is read back, and what is read is what writing gives.
-use Prim.Native.Nat.{ℕ, _+_, _-_, _*_, _/_, _%_, _^_, _<_, _≤_, max}
+use Prim.Native.Nat.{ℕ, _+_, _-_, _*_, _/_, _%_, _^_, _<_, _≤_}
 use mathlib.Core.Path.{_≡_, refl, sym, ap, subst, _∙_}
 use mathlib.Core.Bool.{true, false, cond}
-use mathlib.Core.Logic.{_⊎_, inl, inr, ⊎-elim}
+use mathlib.Core.Logic.{_⊎_, ⊎-elim}
 use mathlib.Core.List.{List, [], _∷_, _++_}
 use native.Mathlib.Omega.{arith}
 use lib.Dec.{eqb, ltb}
@@ -25,7 +25,6 @@ use Rattle.frames.specs.Reading.{Head, kindIn, sideIn, blockIn, roundIn, mapIn
 use Rattle.frames.specs.Of.{shapeOf, readingOf}
 use Rattle.frames.specs.declared.frame.Frame.{Frame}
 use Rattle.frames.specs.declared.refusal.Refusal.{Refusal}
-use Rattle.frames.specs.declared.refusal.Refusal.the-variants.{WrongByte}
 use Rattle.frames.proofs.Firsts.{all-right}
 use Rattle.frames.proofs.Faults.{span, Right, right-parts, syndrome-read, disclosure-read, right-last, right-map, right-value, length-1, length-2, value-length}
 
@@ -248,6 +247,11 @@ written-back n m bytes shape small e =
     subst (λ (x : FrameShape). (frameBytes x ≡ bytes) × WellFormed n m x) (p .1) (written n m bytes small (all-right (rightByte n m bytes) (span n m bytes) (p .0)))
 
 -- the same of a frame in the code
-pub frame-back : (n m : ℕ) (bytes : List ℕ) (r : Result Frame Refusal) → IsBytes bytes → readingOf r ≡ readShape n m bytes → made r (λ frame. frameBytes (shapeOf frame) ≡ bytes)
-frame-back n m bytes (Ok frame) small e = written-back n m bytes (shapeOf frame) small (sym e) .0
-frame-back n m bytes (Err refusal) small e = tt
+module _ (n m : ℕ) (bytes : List ℕ) (small : IsBytes bytes) where
+  pub frame-back : (r : Result Frame Refusal) → readingOf r ≡ readShape n m bytes → made r (λ frame. frameBytes (shapeOf frame) ≡ bytes)
+  frame-back (Ok frame) e = written-back n m bytes (shapeOf frame) small (sym e) .0
+  frame-back (Err refusal) e = tt
+
+  pub frame-formed : (r : Result Frame Refusal) → readingOf r ≡ readShape n m bytes → made r (λ frame. WellFormed n m (shapeOf frame))
+  frame-formed (Ok frame) e = written-back n m bytes (shapeOf frame) small (sym e) .1
+  frame-formed (Err refusal) e = tt

@@ -1,8 +1,7 @@
 -- From the parts that a writer puts into the buffer, one behind the other, to the frame's bytes.
 use Prim.Native.Nat.{ℕ, _+_, _-_, _^_, _<_, _≤_}
 use mathlib.Core.Path.{_≡_, refl, sym, ap, _∙_}
-use mathlib.Core.Bool.{cond}
-use mathlib.Core.List.{List, [], _∷_, _++_, map, append-assoc}
+use mathlib.Core.List.{List, _++_, map, append-assoc}
 use native.Mathlib.Omega.{arith}
 use lib.Dec.{ltb}
 use lib.ListN.{length, take, drop}
@@ -14,7 +13,7 @@ use Rattle.std.specs.declared.result.Result.{Result}
 use Rattle.std.specs.declared.result.Result.the-variants.{Ok, Err}
 use Rattle.runs.specs.Bits.{bitOf, bytesFor, packed, packedTo}
 use Rattle.runs.proofs.Packed.{length-packedTo, bits-of-bytes}
-use Rattle.frames.specs.Shape.{FrameShape, syndromeFrame, disclosureFrame}
+use Rattle.frames.specs.Shape.{FrameShape, syndromeFrame}
 use Rattle.frames.specs.Format.{headBytes, frameBytes}
 use Rattle.frames.specs.Reading.{readShape}
 use Rattle.frames.specs.Writing.{laid, roomFor, mapOf, gathered, inRound, keyBit, disclosureOf}
@@ -49,14 +48,8 @@ part-length : (done buffer : List ℕ) (a k : ℕ) → length done ≡ a → a +
 part-length done buffer a k long l =
     simp (length-take, length-drop, length-append) (omega arith)
 
-head-length : (kind side block round : ℕ) → length (headBytes kind side block round) ≡ 8
-head-length kind side block round = refl
-
 -- a syndrome's bits, one to a byte
 module _ (side block : ℕ) (bits : List ℕ) where
-  abbrev frame-1 : FrameShape
-  frame-1 = syndromeFrame side block (map bitOf bits)
-
   pub syndrome-length : length (frameBytes (syndromeFrame side block (map bitOf bits))) ≡ 8 + bytesFor (length bits)
   unfolding frameBytes
   syndrome-length = let p = length-packedTo (bytesFor (length (map bitOf bits))) (map bitOf bits) in let n = length-map bits bitOf in omega arith

@@ -1,5 +1,4 @@
 -- What a frame in the code says.
-use mathlib.Core.Path.{_≡_}
 use Rattle.std.specs.declared.result.Result.{Result}
 use Rattle.std.specs.declared.result.Result.the-variants.{Ok, Err}
 use Rattle.runs.specs.Of.{bitsOf}

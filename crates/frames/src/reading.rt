@@ -1,15 +1,15 @@
-ghost use Prim.Native.Nat.{ℕ, _+_, _-_, _*_, _/_, _%_, _^_, _<_, _≤_};
+ghost use Prim.Native.Nat.{ℕ, _<_, _≤_};
 ghost use mathlib.Core.Path.{_≡_};
-ghost use mathlib.Core.Bool.{Bool, true, false, cond, _||_};
+ghost use mathlib.Core.Bool.{cond, _||_};
 ghost use mathlib.Core.List.{List};
 ghost use lib.Dec.{eqb, ltb};
-ghost use lib.ListN.{length, getD, drop};
+ghost use lib.ListN.{length, drop};
 ghost use Rattle.std.specs.Orderings.{When};
 ghost use Rattle.std.specs.Vec.{made};
-ghost use Rattle.std.specs.declared.result.Result.the-variants.{Ok, Err};
+ghost use Rattle.std.specs.declared.result.Result.the-variants.{Err};
 ghost use Rattle.codes.specs.Limits.{Sizes};
-ghost use Rattle.runs.specs.Bits.{bytesFor};
 ghost use Rattle.frames.specs.Numbers.{sideNumber};
+ghost use Rattle.frames.specs.Shape.{WellFormed};
 ghost use Rattle.frames.specs.Format.{frameBytes};
 ghost use Rattle.frames.specs.Reading.{Head, readShape, Reads};
 ghost use Rattle.frames.specs.Of.{shapeOf, readingOf};
@@ -114,6 +114,7 @@ fn read_disclosure<'a>(
 pub fn read<'a>(n: usize, m: usize, bytes: &'a [u8]) -> Result<Frame<'a>, Refusal>
     ensures value { λ r. ⌜ Reads n m (now (bytes .entry)) (readingOf r) ⌝ }
     ensures back { λ r. ⌜ made r (λ frame. frameBytes (shapeOf frame) ≡ now (bytes .entry)) ⌝ }
+    ensures formed { λ r. ⌜ made r (λ frame. WellFormed n m (shapeOf frame)) ⌝ }
 {
     if !sizes_are_sound(n, m) {
         return Err(Refusal::WrongSize);

@@ -1,7 +1,5 @@
-ghost use Prim.Native.Nat.{ℕ};
 ghost use mathlib.Core.Path.{_≡_};
 ghost use mathlib.Core.List.{[], _∷_};
-ghost use Rattle.std.specs.declared.result.Result.the-variants.{Ok, Err};
 use crate::reading::read;
 use crate::refusal::Refusal;
 use crate::round::Round;

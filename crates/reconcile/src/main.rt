@@ -1,5 +1,6 @@
 // Replays a script of calls from standard input and prints what each did.
 mod command;
+mod decoding;
 mod desk;
 mod words;
 

@@ -1,4 +1,5 @@
 // The words of a script line: numbers, runs of numbers, digits.
+use decoders::State;
 use runs::Run;
 use std::alloc::AllocError;
 use std::alloc::Global;
@@ -58,6 +59,34 @@ pub fn digits(heap: Global, word: &str) -> Result<Option<Vec<u8>>, AllocError> {
     Ok(Some(places))
 }
 
+fn state_of(letter: u8) -> Option<State> {
+    match letter {
+        b'r' => Some(State::Raw),
+        b'p' => Some(State::Punctured),
+        b'0' => Some(State::Known0),
+        b'1' => Some(State::Known1),
+        _ => None,
+    }
+}
+
+// A letter a position: r raw, p punctured, 0 and 1 known; the empty run is a dash.
+pub fn letters(heap: Global, word: &str) -> Result<Option<Vec<State>>, AllocError> {
+    let mut states = Vec::new(heap);
+    if word == "-" {
+        return Ok(Some(states));
+    }
+    for b in word.as_bytes() {
+        match state_of(*b) {
+            Some(state) => states.push(state)?,
+            None => return Ok(None),
+        }
+    }
+    if states.is_empty() {
+        return Ok(None);
+    }
+    Ok(Some(states))
+}
+
 fn hex_digit(b: u8) -> Option<u8> {
     match b {
         b'0'..=b'9' => Some(b - b'0'),
@@ -102,6 +131,16 @@ pub fn spell_run(heap: Global, run: &Run<'_>) -> Result<String, AllocError> {
     }
     if run.len() == 0 {
         text.push('-')?;
+    }
+    Ok(text)
+}
+
+// Numbers behind single spaces.
+pub fn spell_numbers(heap: Global, numbers: &[u32]) -> Result<String, AllocError> {
+    let mut text = String::new(heap);
+    for x in numbers {
+        let shown = format!(heap, " {x}")?;
+        text.push_str(shown.as_str())?;
     }
     Ok(text)
 }

@@ -13,7 +13,7 @@ use Rattle.std.proofs.shelf.Sums.{sumBy-push}
 use Rattle.std.proofs.shelf.Tests.{cases-lt, cases-eq}
 use Rattle.codes.specs.Places.{AllBelow}
 use Rattle.runs.specs.Bits.{bitOf, bitAt, bytesFor, unpacked, packed, packedByte, packedTo, unused, SoundByte, IsBits, IsBytes, IsRun}
-use Rattle.runs.proofs.Bytes.{byteBy, byte-small, bit-of-byte, byte-of-bits, bit-at, low-bit, Differ, byte-put, byte-kept, byte-clear}
+use Rattle.runs.proofs.Bytes.{byte-small, bit-of-byte, byte-of-bits, bit-at, low-bit, Differ, byte-put, byte-kept, byte-clear}
 
 pub length-unpacked : (w : ℕ) (bytes : List ℕ) → length (unpacked w bytes) ≡ w
 unfolding unpacked

@@ -1,4 +1,4 @@
-ghost use Prim.Native.Nat.{ℕ, _+_, _-_, _*_, _/_, _%_, _^_, _<_, _≤_};
+ghost use Prim.Native.Nat.{ℕ, _+_, _-_, _*_, _/_, _%_, _^_};
 ghost use mathlib.Core.Path.{_≡_};
 ghost use mathlib.Core.List.{List, [], _∷_, _++_, map};
 ghost use lib.ListN.{length, getD, set};
@@ -23,7 +23,8 @@ pub fn clear(out: &mut [u8])
 
 // One bit more behind a packed run of so many bits; where the bytes are full it is let go.
 pub fn put_bit(out: &mut [u8], at: usize, bit: u8)
-    ensures { λ _. ⌜ ((bits : List ℕ) → IsBits bits → length bits ≡ at → now (out .entry) ≡ packedTo (length (now (out .entry))) bits → now (out .exit) ≡ packedTo (length (now (out .entry))) (bits ++ bitOf bit ∷ [])) ⌝ }
+    ensures after { λ _. ⌜ now (out .exit) ≡ set (now (out .entry)) (at / 8) ((getD (now (out .entry)) (at / 8) 0 + bitOf bit * 2 ^ (7 - at % 8)) % 256) ⌝ }
+    ensures grows { λ _. ⌜ ((bits : List ℕ) → IsBits bits → length bits ≡ at → now (out .entry) ≡ packedTo (length (now (out .entry))) bits → now (out .exit) ≡ packedTo (length (now (out .entry))) (bits ++ bitOf bit ∷ [])) ⌝ }
 {
     let q = at / 8;
     if q < out.len() {

@@ -1,4 +1,3 @@
-ghost use Prim.Native.Nat.{ℕ, _<_};
 ghost use mathlib.Core.Path.{_≡_};
 ghost use lib.ListN.{length, getD};
 ghost use Rattle.std.specs.shelf.Lists.{sum};
@@ -21,6 +20,7 @@ impl<'a> Run<'a> {
         Run { width, bytes }
     }
 
+    // How many bits it has.
     pub fn len(&self) -> usize
         ensures { λ r. ⌜ r ≡ length (bitsOf (now (self .entry))) ⌝ }
     {

@@ -1,6 +1,6 @@
-ghost use Prim.Native.Nat.{ℕ, _+_, _-_, _*_, _/_, _%_, _^_, _<_, _≤_, max};
+ghost use Prim.Native.Nat.{max};
 ghost use mathlib.Core.Path.{_≡_};
-ghost use lib.ListN.{length, getD};
+ghost use lib.ListN.{length};
 ghost use Rattle.std.specs.Options.{Cases};
 ghost use Rattle.codes.specs.Places.{AllBelow, FirstFault};
 ghost use Rattle.runs.specs.Bits.{bitAt, bytesFor, SoundByte, SoundLast};

@@ -1,17 +1,8 @@
-use mathlib.Core.Path.{_≡_, _∙_, ap, sym}
-use Prim.Native.Nat.{ℕ}
+use mathlib.Core.Path.{_≡_, _∙_, sym}
 use native.Mathlib.Omega.{arith}
 use lib.ListN.{length}
-use Rattle.std.specs.declared.result.Result.{Result}
-use Rattle.std.specs.declared.result.Result.the-variants.{Err}
-use Rattle.frames.specs.Shape.{FrameShape}
-use Rattle.frames.specs.declared.refusal.Refusal.{Refusal}
-use Rattle.frames.specs.declared.refusal.Refusal.the-variants.{WrongByte}
 use Rattle.frames.proofs.Faults.{wrong-kind, wrong-side, cut-head}
 use Rattle.frames.proofs.reading.cut_head_fault.Needs as need
-
-at : ℕ → Result FrameShape Refusal
-at i = Err (WrongByte i)
 
 pub returns-then-bytes-lt1 : need.returns-then-bytes-lt1
 returns-then-bytes-lt1 c = λ n m.

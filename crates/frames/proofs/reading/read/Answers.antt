@@ -1,22 +1,20 @@
-use Prim.Native.Nat.{_<_, _≤_}
 use mathlib.Core.Path.{_≡_, _∙_, sym}
-use mathlib.Core.Bool.{true, false}
+use mathlib.Core.Logic.{⊎-elim}
 use native.Mathlib.Omega.{arith}
 use borrow.Author.Tests.{ltb-false}
-use lib.ListN.{length, drop}
 use Rattle.std.proofs.shelf.Lists.{take-rest}
-use Rattle.std.proofs.shelf.Tests.{eqb-true, ltb-true, eq-eqb, ne-eqb, cond-true, cond-false, or-cases}
-use mathlib.Core.Logic.{⊎-elim}
+use Rattle.std.proofs.shelf.Tests.{eqb-true, eq-eqb, cond-true, or-cases}
 use Rattle.frames.specs.Numbers.{sideNumber}
-use Rattle.frames.specs.Reading.{Head, kindIn, sideIn, roundIn}
+use Rattle.frames.specs.Reading.{Head, kindIn}
 use Rattle.frames.proofs.Faults.{wrong-kind, wrong-side, wrong-round}
-use Rattle.frames.proofs.RoundTrip.{frame-back}
+use Rattle.frames.proofs.RoundTrip.{frame-back, frame-formed}
 use Rattle.frames.proofs.reading.read.Needs as need
 
 pub returns-then-not-is-known : need.returns-then-not-is-known
 returns-then-not-is-known c = record {
   value = (λ _. sym (wrong-kind (c .args .n) (c .args .m) (c .args .bytes .now) (sym (c .if-not-is-known .ensures tt))), λ no-sizes. absurd (no-sizes (c .if-not-sizes-are-sound .ensures tt)));
   back = tt;
+  formed = tt;
 }
 
 pub returns-then-side-gt1 : need.returns-then-side-gt1
@@ -26,6 +24,7 @@ returns-then-side-gt1 c = record {
     λ no-sizes. absurd (no-sizes (c .if-not-sizes-are-sound .ensures tt)),
   );
   back = tt;
+  formed = tt;
 }
 
 pub returns-then-not-is-round-of : need.returns-then-not-is-round-of
@@ -38,6 +37,7 @@ returns-then-not-is-round-of c =
         λ no-sizes. absurd (no-sizes (c .if-not-sizes-are-sound .ensures tt)),
       );
       back = tt;
+      formed = tt;
     }
 
 pub returns-then-kind-eq1 : need.returns-then-kind-eq1
@@ -56,7 +56,8 @@ returns-then-kind-eq1 c =
     let read = c .read-syndrome .ensures (c .args .n) bytes head (sym (take-rest bytes 8)) in
     record {
       value = (λ _. read, λ no-sizes. absurd (no-sizes (c .if-not-sizes-are-sound .ensures tt)));
-      back = frame-back (c .args .n) (c .args .m) bytes (c .read-syndrome .result) (λ q. omega (arith, c .typed .bytes q)) read;
+      back = frame-back (c .args .n) (c .args .m) bytes (λ q. omega (arith, c .typed .bytes q)) (c .read-syndrome .result) read;
+      formed = frame-formed (c .args .n) (c .args .m) bytes (λ q. omega (arith, c .typed .bytes q)) (c .read-syndrome .result) read;
     }
 
 pub returns-else-kind-eq1 : need.returns-else-kind-eq1
@@ -74,5 +75,6 @@ returns-else-kind-eq1 c =
     let read = c .read-disclosure .ensures (c .args .m) bytes head (sym (take-rest bytes 8)) in
     record {
       value = (λ _. read, λ no-sizes. absurd (no-sizes (c .if-not-sizes-are-sound .ensures tt)));
-      back = frame-back (c .args .n) (c .args .m) bytes (c .read-disclosure .result) (λ q. omega (arith, c .typed .bytes q)) read;
+      back = frame-back (c .args .n) (c .args .m) bytes (λ q. omega (arith, c .typed .bytes q)) (c .read-disclosure .result) read;
+      formed = frame-formed (c .args .n) (c .args .m) bytes (λ q. omega (arith, c .typed .bytes q)) (c .read-disclosure .result) read;
     }

@@ -1,10 +1,9 @@
-use Prim.Native.Nat.{ℕ, _+_, max}
-use mathlib.Core.Path.{_≡_, sym, subst}
+use Prim.Native.Nat.{ℕ}
+use mathlib.Core.Path.{sym, subst}
 use mathlib.Core.List.{List}
 use native.Mathlib.Omega.{arith}
-use lib.ListN.{length}
-use Rattle.codes.specs.Places.{AllBelow, FirstFault}
-use Rattle.runs.specs.Bits.{bytesFor, SoundByte, SoundLast}
+use Rattle.codes.specs.Places.{FirstFault}
+use Rattle.runs.specs.Bits.{bytesFor, SoundByte}
 use Rattle.runs.specs.Of.{bitsOf}
 use Rattle.runs.proofs.Packed.{long-enough}
 use Rattle.frames.specs.Numbers.{sideNumber}

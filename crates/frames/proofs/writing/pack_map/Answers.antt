@@ -1,4 +1,4 @@
-use mathlib.Core.Path.{_≡_, sym, ap, _∙_}
+use mathlib.Core.Path.{_≡_}
 use lib.ListN.{length}
 use Rattle.runs.specs.Bits.{packedTo}
 use Rattle.frames.specs.Writing.{mapOf, inRound}
@@ -18,7 +18,7 @@ loop-i-again c =
     let i = c .loop-i .i in
     let same = c .loop-i .kept .out in
     let is : c .loop-i .out ≡ packedTo (length (c .loop-i .out)) (mapOf test i) = cc in
-    let put = c .put-bit .ensures (mapOf test i) (mapOf-bits test i) (length-mapOf test i) is in
+    let put = c .put-bit .ensures .grows (mapOf test i) (mapOf-bits test i) (length-mapOf test i) is in
     let bit = mark-bit (test i) in
     let mark = c .mark .ensures in
     let more = mapOf-more test i in

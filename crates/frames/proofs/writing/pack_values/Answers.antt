@@ -1,5 +1,4 @@
 use mathlib.Core.Path.{_≡_, sym, ap, _∙_}
-use mathlib.Core.List.{_∷_, []}
 use native.Mathlib.Omega.{arith}
 use lib.Dec.{lit≤}
 use lib.ListN.{length}
@@ -28,7 +27,7 @@ loop-i-again c =
     let is : c .loop-i .out ≡ packedTo (length (c .loop-i .out)) (gathered test f i) = cc in
     elim (c .if-r-round .came) [
       | then-r-round w ↦
-          let put = w .put-bit .ensures (gathered test f i) (gathered-bits test f (λ j. omega arith) i) (sym (c .loop-i .inv .1)) is in
+          let put = w .put-bit .ensures .grows (gathered test f i) (gathered-bits test f (λ j. omega arith) i) (sym (c .loop-i .inv .1)) is in
           let more = gathered-yes test f i (eq-eqb _ _ (w .if-r-round .taken)) in
           let byte = w .byte-at .ensures in
           let out = w .out-is in

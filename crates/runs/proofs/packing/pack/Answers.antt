@@ -1,7 +1,7 @@
-use mathlib.Core.Path.{_≡_, _∙_, sym, ap}
+use mathlib.Core.Path.{_≡_, _∙_}
 use mathlib.Core.List.{map}
 use native.Mathlib.Omega.{arith}
-use lib.ListN.{length, take, getD}
+use lib.ListN.{length, take}
 use Rattle.std.proofs.shelf.Lists.{take-all, map-more, length-map, length-take-le}
 use Rattle.runs.specs.Bits.{bitOf, packedTo}
 use Rattle.runs.proofs.Packed.{bits-of-bytes, packed-inverse}
@@ -14,7 +14,7 @@ loop-i-again c =
     let same = c .loop-i .kept .out in
     let is : c .loop-i .out ≡ packedTo (length (c .loop-i .out)) (map bitOf (take i bits)) = cc in
     let long : length (map bitOf (take i bits)) ≡ i = length-map (take i bits) bitOf ∙ length-take-le i bits (omega arith) in
-    let put = c .put-bit .ensures (map bitOf (take i bits)) (bits-of-bytes (take i bits)) long is in
+    let put = c .put-bit .ensures .grows (map bitOf (take i bits)) (bits-of-bytes (take i bits)) long is in
     let more = map-more bitOf bits i 0 (c .loop-i-test .taken) in
     cc
 

@@ -1,8 +1,8 @@
-use mathlib.Core.Path.{_≡_, sym, subst, ap}
+use mathlib.Core.Path.{_≡_}
 use native.Mathlib.Omega.{arith}
-use lib.ListN.{length, set, getD}
+use lib.ListN.{length}
 use Rattle.std.proofs.shelf.Edits.{fill-by-more}
-use Rattle.runs.specs.Bits.{bitAt, unpacked, packed, IsRun}
+use Rattle.runs.specs.Bits.{bitAt, unpacked}
 use Rattle.runs.proofs.Packed.{filled, packed-unpacked}
 use Rattle.runs.proofs.packing.unpack.Needs as need
 

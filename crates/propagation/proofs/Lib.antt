@@ -1,0 +1,12 @@
+pub mod Sizes
+pub mod Priors
+pub mod Elements
+pub mod Hearing
+pub mod Answering
+pub mod Filling
+pub mod Sending
+pub mod Totals
+pub mod Signs
+pub mod Courses
+pub mod Runs
+pub mod Bounds
