@@ -1,4 +1,4 @@
-// Times the proved propagation and the same algorithm in C, alternately, on the matrix of wifi-1944-half.txt.
+// Times the proved propagation and the same algorithm in C, alternately, on the matrix of data/ieee80211n-1944-rate12.txt.
 #include <math.h>
 #include <stdbool.h>
 #include <stdint.h>
