@@ -1,11 +1,10 @@
 -- At most one refusal is due.
-use Prim.Native.Nat.{ℕ, _-_, _<_, _≤_}
+use Prim.Native.Nat.{ℕ, _-_}
 use mathlib.Core.Path.{_≡_, refl, ap}
 use mathlib.Core.Logic.{⊎-elim}
 use mathlib.Core.List.{List}
 use native.Mathlib.Omega.{arith}
 use Rattle.std.proofs.shelf.Tests.{cases-order}
-use Rattle.codes.specs.Places.{FirstFault}
 use Rattle.check_rules.specs.Admission.{Admissible, FaultAt, Refused, OneRefusal, SoundF2a, SoundA2f, SoundRaw}
 use Rattle.check_rules.specs.declared.refusal.TableRefusal.{TableRefusal}
 use Rattle.check_rules.specs.declared.refusal.TableRefusal.the-variants.{WrongLength, WrongF2a, WrongA2f, WrongRaw}

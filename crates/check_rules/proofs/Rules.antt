@@ -1,13 +1,12 @@
 -- The rules keep their bounds.
 use Prim.Native.Nat.{ℕ, suc, zero, _-_, _<_, _≤_, min, max}
-use mathlib.Core.Bool.{cond}
 use mathlib.Core.Logic.{⊎-elim}
-use mathlib.Core.Path.{_≡_, ap, fun-ext}
+use mathlib.Core.Path.{_≡_, fun-ext}
 use mathlib.Core.List.{List, [], _∷_}
 use native.Mathlib.Omega.{arith}
 use lib.Dec.{eqb}
 use lib.ListN.{getD, length}
-use Rattle.std.specs.shelf.Lists.{folded, sumBy, All}
+use Rattle.std.specs.shelf.Lists.{sumBy, All}
 use Rattle.std.proofs.shelf.Elements.{all-getD}
 use Rattle.std.proofs.shelf.Lists.{getD-past}
 use Rattle.std.proofs.shelf.Tests.{cases-lt, cond-both}

@@ -1,7 +1,7 @@
 -- The sums of a check's magnitudes, and of the others of a place.
-use Prim.Native.Nat.{ℕ, _+_, _-_, _*_, _<_, _≤_, min}
+use Prim.Native.Nat.{ℕ, _+_, _-_, _<_, _≤_, min}
 use mathlib.Core.Bool.{cond}
-use mathlib.Core.Path.{_≡_, refl, sym, ap, _∙_}
+use mathlib.Core.Path.{_≡_, refl, sym, _∙_}
 use mathlib.Core.List.{List, [], _∷_, _++_}
 use native.Mathlib.Omega.{arith}
 use lib.Dec.{eqb, ltb}
@@ -11,7 +11,7 @@ use Rattle.std.proofs.shelf.Lists.{length-push}
 use Rattle.std.proofs.shelf.Sums.{sumBy-push}
 use Rattle.std.proofs.shelf.Ways.{tells}
 use Rattle.check_rules.proofs.Others.{sumBy-removed}
-use Rattle.check_rules.specs.Table.{entry, zeros, fromSum, tableSends, SumsOf, lentRule}
+use Rattle.check_rules.specs.Table.{entry, zeros, fromSum, SumsOf, lentRule}
 
 pub sums-none : (f2a : List ℕ) → SumsOf f2a [] 0 0
 sums-none f2a = record { zeros-is = refl; sum-is = refl; bound = omega arith }

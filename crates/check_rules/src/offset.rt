@@ -1,6 +1,6 @@
 ghost use Prim.Native.Nat.{ℕ, _-_, _≤_};
 ghost use mathlib.Core.Path.{_≡_};
-ghost use mathlib.Core.List.{List, [], _∷_, map};
+ghost use mathlib.Core.List.{[], _∷_, map};
 ghost use lib.IntN.{pos, negℤ};
 ghost use Rattle.std.specs.shelf.Lists.{All};
 ghost use Rattle.check_rules.specs.Lows.{LowsOf};

@@ -1,13 +1,13 @@
 -- What a check sends back, place after place.
-use Prim.Native.Nat.{ℕ, suc, _+_, _-_, _*_, _%_, _<_, _≤_}
+use Prim.Native.Nat.{ℕ, suc, _+_, _-_, _%_, _<_, _≤_}
 use mathlib.Core.Logic.{_≢_}
 use mathlib.Core.Path.{_≡_, refl, sym, ap, _∙_}
-use mathlib.Core.List.{List, [], _∷_, _++_, map}
+use mathlib.Core.List.{List, [], _∷_, map}
 use native.Mathlib.Omega.{arith}
 use lib.Dec.{eqb}
 use lib.IntN.{ℤ, pos, negsuc, negℤ, natAbs}
 use lib.ListN.{length, getD, set, take, drop}
-use Rattle.std.specs.shelf.Lists.{All, removed, sumBy}
+use Rattle.std.specs.shelf.Lists.{All, removed}
 use Rattle.std.proofs.shelf.Sums.{sumBy-le, getD-le-sumBy}
 use Rattle.std.proofs.shelf.Counted.{fill-by-all}
 use Rattle.std.proofs.shelf.Edits.{fill-by-more}
@@ -15,7 +15,7 @@ use Rattle.std.proofs.shelf.Elements.{all-set}
 use Rattle.std.proofs.shelf.Lists.{map-append, take-map, drop-map, map-set, length-map, getD-map, getD-set-other}
 use Rattle.std.proofs.shelf.Tests.{cond-both}
 use Rattle.codes.specs.Tells.{signBit}
-use Rattle.check_rules.specs.Meaning.{Meaning, SoundMeaning}
+use Rattle.check_rules.specs.Meaning.{Meaning}
 use Rattle.check_rules.proofs.Others.{sumBy-removed}
 use Rattle.beliefs.specs.Steps.{signed}
 use Rattle.propagation.specs.Check.{negatives, answer, answers}

@@ -1,11 +1,10 @@
 -- How large beliefs grow, and that every answer is well formed.
 use Prim.Native.Nat.{ℕ, zero, suc, _+_, _*_, _<_, _≤_}
-use mathlib.Core.Bool.{true}
-use mathlib.Core.Path.{_≡_, refl, sym, ap, _∙_}
+use mathlib.Core.Path.{_≡_, _∙_}
 use mathlib.Core.List.{List, [], _∷_, map}
 use native.Mathlib.Omega.{arith}
 use lib.IntN.{ℤ, pos, negsuc, natAbs, _+ℤ_}
-use lib.ListN.{length, getD, take, replicate}
+use lib.ListN.{length, getD, take}
 use Rattle.std.specs.Iters.{counting}
 use Rattle.std.specs.shelf.Lists.{All, removed}
 use Rattle.std.proofs.shelf.Counted.{getD-map-counting, length-map-counting}
@@ -15,11 +14,10 @@ use Rattle.codes.specs.Admission.{degree}
 use Rattle.codes.specs.Tells.{signBit}
 use Rattle.check_rules.specs.Meaning.{Meaning, SoundMeaning}
 use Rattle.decoders.specs.Decoding.{Formed}
-use Rattle.decoders.specs.Fit.{patternFits}
-use Rattle.decoders.specs.Question.{Question, SoundQuestion, SoundAnswer}
+use Rattle.decoders.specs.Question.{Question, SoundQuestion}
 use Rattle.decoders.specs.declared.state.State.{State}
-use Rattle.propagation.specs.Check.{heard, negatives, answer, answers}
-use Rattle.propagation.specs.Course.{begun, renewed, course, patternOf, fitsAfter, stopsAt, limited, iterations, propagated}
+use Rattle.propagation.specs.Check.{negatives, answer, answers}
+use Rattle.propagation.specs.Course.{begun, renewed, course, fitsAfter, limited, iterations, propagated}
 use Rattle.propagation.specs.Passes.{prior, priors, sentUpTo, sentTo, totalsOf}
 use Rattle.propagation.specs.Promises.{Bounded, EarlyFits}
 use Rattle.propagation.proofs.Answering.{size-signed}

@@ -3,7 +3,7 @@ use Prim.Native.Nat.{ℕ, zero, suc, _+_, _*_, _<_, _≤_}
 use mathlib.Core.Bool.{Bool, true, false, cond}
 use mathlib.Core.Logic.{_≢_, ⊎-elim}
 use mathlib.Core.Path.{_≡_, refl, sym, ap, _∙_}
-use mathlib.Core.List.{List, [], _∷_, _++_, map}
+use mathlib.Core.List.{List, [], _∷_, map}
 use native.Mathlib.Nat.{add-mul, mul-le-mul-right}
 use native.Mathlib.Omega.{arith}
 use native.Mathlib.Numerals.{add-one}
@@ -15,7 +15,7 @@ use Rattle.std.proofs.shelf.Counted.{fill-by-all}
 use Rattle.std.proofs.shelf.Elements.{all-take, all-map, all-weaker, all-getD, all-from-every}
 use Rattle.std.proofs.shelf.Lists.{getD-set-same, getD-set-other, getD-map, length-map, take-all}
 use Rattle.std.proofs.shelf.Sums.{sumBy-cons, sumBy-take-le}
-use Rattle.std.proofs.shelf.Tests.{cases-eq, eq-eqb, ne-eqb, cond-true, cond-false}
+use Rattle.std.proofs.shelf.Tests.{cases-eq, eq-eqb, ne-eqb, cond-true}
 use Rattle.codes.specs.Admission.{degree}
 use Rattle.codes.specs.Places.{AllBelow}
 use Rattle.propagation.specs.Passes.{sentTo, totalsOf}

@@ -1,4 +1,4 @@
-ghost use Prim.Native.Nat.{ℕ, _+_, _*_, _≤_, min, max};
+ghost use Prim.Native.Nat.{_+_, _*_, _≤_, min, max};
 ghost use mathlib.Core.Path.{_≡_};
 ghost use lib.ListN.{length};
 ghost use Rattle.check_rules.specs.Meaning.{SoundMeaning};
@@ -16,6 +16,18 @@ use decoders::DecoderRefusal;
 use decoders::State;
 use decoders::suffices;
 
+fn limit_within(limit: u8) -> u8
+    ensures { λ r. ⌜ r ≡ limited limit ⌝ }
+{
+    limit.max(1).min(64)
+}
+
+fn class_within(q: u8) -> u8
+    ensures { λ r. ⌜ r ≡ min (max q 1) 12 ⌝ }
+{
+    q.max(1).min(12)
+}
+
 // Belief propagation over a check rule, to a limit of iterations from 1 to 64; outside counts as the nearer end.
 #[derive(Drop)]
 pub struct Propagation<R> {
@@ -29,7 +41,7 @@ impl<R: CheckRule<i32>> Propagation<R> {
         ensures value { λ r. ⌜ r ≡ limited (now (self .entry) .limit) ⌝ }
         ensures early { λ _. ⌜ EarlyFits (R·CheckRule .meaning (now (self .entry) .rule)) (now (self .entry) .limit) ⌝ }
     {
-        self.limit.max(1).min(64)
+        limit_within(self.limit)
     }
 
     // The most that a confidence can be.
@@ -65,8 +77,8 @@ fn solve<R: CheckRule<i32>>(
     let _ = rule.known();
     let n = matrix.width();
     let entries = matrix.positions().len();
-    let class = q.max(1).min(12);
-    let most = limit.max(1).min(64);
+    let class = class_within(q);
+    let most = limit_within(limit);
     let (totals, rest) = work.split_at_mut(n);
     iterate(
         rule,

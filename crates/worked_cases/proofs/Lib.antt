@@ -1,0 +1,4 @@
+pub mod Computed
+pub mod Listed
+pub mod Matrix
+pub mod Premised

@@ -1,1 +1,3 @@
 pub mod Six
+pub mod Block
+pub mod Seen

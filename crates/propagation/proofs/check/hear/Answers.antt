@@ -1,14 +1,14 @@
-use Prim.Native.Nat.{ℕ, _<_, _≤_, _+_, _*_}
-use mathlib.Core.Path.{_≡_, refl, sym, ap, subst, _∙_}
-use mathlib.Core.List.{List, map}
+use Prim.Native.Nat.{_<_, _*_}
+use mathlib.Core.Path.{_≡_, refl, ap, _∙_}
+use mathlib.Core.List.{map}
 use native.Mathlib.Omega.{arith}
-use lib.IntN.{pos, natAbs, _-ℤ_}
-use lib.ListN.{length, getD}
+use lib.IntN.{_-ℤ_}
+use lib.ListN.{length}
 use Rattle.codes.specs.Tells.{signBit}
-use Rattle.propagation.specs.Check.{received, heard, negatives}
+use Rattle.propagation.specs.Check.{received, heard}
 use Rattle.propagation.specs.Within.{Fine}
 use Rattle.propagation.proofs.Elements.{read-all, read-map}
-use Rattle.propagation.proofs.Hearing.{heardUpTo, heard-none, heard-more, heard-all, sizes-more, negatives-more, sizes-length}
+use Rattle.propagation.proofs.Hearing.{heard-none, heard-more, heard-all, sizes-more, negatives-more, sizes-length}
 use Rattle.propagation.proofs.Sizes.{natAbs-sub, natAbs-held}
 use Rattle.propagation.proofs.check.hear.Needs as need
 

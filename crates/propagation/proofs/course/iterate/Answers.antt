@@ -1,11 +1,8 @@
-use Prim.Native.Nat.{ℕ, _<_, _≤_, _+_, _-_, _*_}
-use mathlib.Core.Path.{_≡_, refl, sym, ap, _∙_}
-use mathlib.Core.List.{map}
+use Prim.Native.Nat.{_<_, _+_, _-_, _*_}
+use mathlib.Core.Path.{_≡_, sym, ap, _∙_}
 use native.Mathlib.Omega.{arith}
 use mir.Syntax.{w8}
 use mir.Val.{Fits}
-use lib.IntN.{pos}
-use lib.ListN.{length, replicate}
 use Rattle.std.proofs.shelf.Elements.{all-weaker}
 use Rattle.codes.specs.Of.{codeOf}
 use Rattle.propagation.specs.Course.{Beliefs, asking, begun, course, stopsAt}

@@ -1,8 +1,7 @@
-use Prim.Native.Nat.{ℕ, _*_, _<_, _≤_}
+use Prim.Native.Nat.{_*_}
 use mathlib.Core.Path.{_≡_, sym, ap, _∙_}
 use mathlib.Core.List.{map}
-use native.Mathlib.Omega.{arith}
-use lib.ListN.{length, getD}
+use lib.ListN.{length}
 use Rattle.std.proofs.shelf.Elements.{all-weaker}
 use Rattle.codes.specs.Of.{codeOf}
 use Rattle.propagation.specs.Course.{patternOf}

@@ -1,14 +1,13 @@
-use Prim.Native.Nat.{ℕ, _<_, _≤_}
-use mathlib.Core.Path.{_≡_, refl, sym, ap, _∙_}
+use mathlib.Core.Path.{_≡_, refl, sym, _∙_}
 use mathlib.Core.List.{map}
 use native.Mathlib.Omega.{arith}
 use native.Mathlib.Numerals.{add-one}
 use borrow.Author.Needs.{needs}
 use lib.ListN.{length}
-use Rattle.codes.specs.Code.{start, end}
+use Rattle.codes.specs.Code.{start}
 use Rattle.codes.specs.Syndrome.{parity}
 use Rattle.codes.proofs.Checks.{ends-within}
-use Rattle.decoders.specs.Fit.{allBelow, meets}
+use Rattle.decoders.specs.Fit.{meets}
 use Rattle.decoders.specs.Question.{bitOf}
 use Rattle.decoders.proofs.Fits.{below-more, below-fails, meets-here, fails-here}
 use Rattle.propagation.specs.Course.{patternOf}

@@ -1,9 +1,9 @@
-use Prim.Native.Nat.{ℕ, suc, _<_, _≤_, _+_, _*_, _^_}
+use Prim.Native.Nat.{suc, _<_, _+_}
 use mathlib.Core.Path.{_≡_, sym, ap, ap₂, _∙_}
-use mathlib.Core.List.{List, map}
+use mathlib.Core.List.{map}
 use native.Mathlib.Omega.{arith}
-use lib.IntN.{ℤ, pos, natAbs, _+ℤ_}
-use lib.ListN.{length, getD, set}
+use lib.IntN.{ℤ, pos, _+ℤ_}
+use lib.ListN.{length, getD}
 use Rattle.std.proofs.shelf.Elements.{all-set, all-weaker}
 use Rattle.std.proofs.shelf.Lists.{length-map, map-set}
 use Rattle.propagation.specs.Within.{Fine}

@@ -1,5 +1,3 @@
-use Prim.Native.Nat.{ℕ, _<_}
-use mathlib.Core.Path.{_≡_}
 use mathlib.Core.List.{map}
 use Rattle.std.specs.shelf.Lists.{All}
 use Rattle.propagation.proofs.Totals.{TotalledUpTo}

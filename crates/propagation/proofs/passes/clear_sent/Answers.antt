@@ -1,8 +1,6 @@
-use Prim.Native.Nat.{ℕ, _≤_}
-use mathlib.Core.Path.{_≡_, sym, ap, _∙_}
-use mathlib.Core.List.{map}
+use mathlib.Core.Path.{_≡_, ap, _∙_}
 use native.Mathlib.Omega.{arith}
-use lib.IntN.{pos, natAbs}
+use lib.IntN.{pos}
 use lib.ListN.{length, replicate}
 use Rattle.std.proofs.shelf.Elements.{all-weaker}
 use Rattle.propagation.specs.Within.{Fine}

@@ -1,15 +1,14 @@
-use Prim.Native.Nat.{ℕ, _<_, _≤_, _+_, _-_, _*_}
+use Prim.Native.Nat.{_<_, _≤_, _+_, _-_}
 use mathlib.Core.Path.{_≡_, refl, sym, ap, _∙_}
-use mathlib.Core.List.{List, [], _++_, map}
+use mathlib.Core.List.{[], _++_, map}
 use native.Mathlib.Omega.{arith}
 use native.Mathlib.Numerals.{add-one}
 use borrow.Author.Needs.{needs}
 use lib.ListN.{length, getD, drop}
-use Rattle.std.specs.shelf.Lists.{between}
 use Rattle.std.proofs.shelf.Edits.{length-between, getD-between}
 use Rattle.std.proofs.shelf.Lists.{append-nil, drop-all, length-map, getD-map}
 use Rattle.std.proofs.shelf.Elements.{all-take, all-drop}
-use Rattle.codes.specs.Code.{start, end, checkIn}
+use Rattle.codes.specs.Code.{start, end}
 use Rattle.codes.proofs.Checks.{ends-within}
 use Rattle.decoders.specs.Question.{bitOf}
 use Rattle.propagation.specs.Passes.{sentUpTo, sentBy}

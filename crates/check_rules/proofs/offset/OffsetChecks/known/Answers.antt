@@ -1,4 +1,3 @@
-use borrow.Author.Needs.{needs}
 use Rattle.check_rules.specs.Offset.{offsetRule}
 use Rattle.check_rules.proofs.Rules.{offset-sound}
 use Rattle.check_rules.proofs.offset.OffsetChecks.known.Needs as need

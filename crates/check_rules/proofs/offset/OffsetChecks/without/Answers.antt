@@ -1,9 +1,7 @@
-use Prim.Native.Nat.{ℕ, _+_, _-_, _*_, _%_, _≤_}
-use mathlib.Core.Bool.{true, false}
+use Prim.Native.Nat.{_+_, _-_, _*_, _%_, _≤_}
 use mathlib.Core.Path.{_≡_, sym, ap, _∙_}
 use native.Mathlib.Omega.{arith}
 use lib.Dec.{eqb, ltb}
-use lib.IntN.{pos}
 use lib.ListN.{getD}
 use Rattle.std.proofs.shelf.Elements.{all-getD}
 use Rattle.beliefs.specs.Steps.{signed}

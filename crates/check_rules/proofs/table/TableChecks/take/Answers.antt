@@ -1,6 +1,4 @@
-use Prim.Native.Nat.{_<_, _≤_, _+_, _^_}
-use mathlib.Core.Path.{_≡_, sym}
-use mathlib.Core.Bool.{cond}
+use Prim.Native.Nat.{_≤_}
 use native.Mathlib.Omega.{arith}
 use lib.Dec.{eqb}
 use Rattle.std.proofs.shelf.Sums.{countBy-le-length}

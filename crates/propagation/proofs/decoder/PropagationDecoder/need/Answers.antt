@@ -1,8 +1,7 @@
-use Prim.Native.Nat.{_+_, _≤_}
-use mathlib.Core.Path.{_≡_, ap, ap₂, _∙_}
+use Prim.Native.Nat.{_+_}
+use mathlib.Core.Path.{ap, ap₂}
 use native.Mathlib.Omega.{arith}
 use lib.ListN.{length}
-use Rattle.std.specs.Of.Vec.{vec-items}
 use Rattle.decoders.proofs.Sound.{admitted}
 use Rattle.propagation.proofs.Bounds.{formed}
 use Rattle.propagation.proofs.decoder.PropagationDecoder.need.Needs as need

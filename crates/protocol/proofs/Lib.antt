@@ -1,0 +1,16 @@
+pub mod Words
+pub mod Shift
+pub mod Opening
+pub mod Hiding
+pub mod Ranks
+pub mod Course
+pub mod Follow
+pub mod CourseFrames
+pub mod Preserve
+pub mod Listen
+pub mod Track
+pub mod Tracking
+pub mod Together
+pub mod Settled
+pub mod Proved
+pub mod Beside

@@ -1,0 +1,13 @@
+pub mod Counting
+pub mod Plan
+pub mod State
+pub mod Asking
+pub mod Calls
+pub mod Turning
+pub mod Hearing
+pub mod Steps
+pub mod Runs
+pub mod Reading
+pub mod Guarantee
+pub mod Theorems
+pub mod Of
