@@ -101,19 +101,23 @@ def script(rng, count):
     return b"\n".join(lines) + rng.choice([b"", b"\n"])
 
 
+def compare(program, text):
+    """Runs the script, and ends with status 1 unless the program prints what the independent reader does."""
+    run = subprocess.run([program], input=text, stdout=subprocess.PIPE, check=False)
+    wanted = "".join(line + "\n" for line in reference.replies(text)).encode()
+    got, due = run.stdout.splitlines(), wanted.splitlines()
+    if run.returncode != 0 or run.stdout != wanted:
+        first = next((i for i, (a, b) in enumerate(zip(got, due)) if a != b), min(len(got), len(due)))
+        print(f"status {run.returncode}, line {first} of the output differs", got[first : first + 1], due[first : first + 1])
+        sys.exit(1)
+    return due
+
+
 def main():
     program = sys.argv[1]
     count = int(sys.argv[2]) if len(sys.argv) > 2 else 5000
     rng = random.Random(int(sys.argv[3]) if len(sys.argv) > 3 else 1)
-    text = script(rng, count)
-    run = subprocess.run([program], input=text, stdout=subprocess.PIPE, check=False)
-    wanted = "".join(line + "\n" for line in reference.replies(text)).encode()
-    if run.returncode != 0 or run.stdout != wanted:
-        got, due = run.stdout.splitlines(), wanted.splitlines()
-        first = next((i for i, (a, b) in enumerate(zip(got, due)) if a != b), min(len(got), len(due)))
-        print(f"status {run.returncode}, line {first} of the output differs", got[first : first + 1], due[first : first + 1])
-        sys.exit(1)
-    print(f"fuzz: {count} lines, {len(wanted.splitlines())} replies, the same bytes")
+    print(f"fuzz: {count} lines, {len(compare(program, script(rng, count)))} replies, the same bytes")
 
 
 if __name__ == "__main__":

@@ -6,9 +6,9 @@ ROOT = pathlib.Path(__file__).resolve().parent.parent
 BLOCK = 81
 
 
-def published_checks():
-    """The checks of the 1,944-position matrix, from its table of shifts."""
-    text = (ROOT / "data/ieee80211n-1944-rate12.txt").read_text()
+def published_checks(rate):
+    """The checks of a matrix of 1,944 positions, from its table of shifts; the rate is 12, 34 or 56."""
+    text = (ROOT / f"data/ieee80211n-1944-rate{rate}.txt").read_text()
     rows = [line.split() for line in text.splitlines() if line and not line.startswith("#")]
     return [
         sorted(c * BLOCK + (i + int(s)) % BLOCK for c, s in enumerate(row) if s != "-")
@@ -112,7 +112,7 @@ def script():
     yield ""
     yield "# The rate 1/2 matrix of 1,944 positions of IEEE 802.11n, with a key of period 7."
     n = 24 * BLOCK
-    yield matrix_line(1944, n, published_checks())
+    yield matrix_line(1944, n, published_checks(12))
     yield f"syndrome 1944 {''.join('1' if i * i % 7 == 2 else '0' for i in range(n))} 972"
     yield "decoder offset 64 flipping 100"
     yield f"decode 1944 {''.join('1' if i * i % 11 == 3 and i < 300 else '0' for i in range(972))} {'r' * n} 5 {n} {n} 16384"
