@@ -27,6 +27,7 @@ use Rattle.protocol.specs.Asking.{known, stateAt, questionOf, Verdict, settled
 use Rattle.protocol.specs.Turning.{questionNow, judgedNow, after, concluded, disclosing}
 use Rattle.protocol.specs.Reading.{verdictMap, isNaming}
 use Rattle.protocol.specs.Guarantee.{Block}
+use Rattle.protocol.proofs.Words.{map-cong}
 use Rattle.protocol.proofs.Opening.{FitKey}
 use Rattle.protocol.proofs.Course.{Point, course, questionAt, judgedAt, verdictAt, course-next, course-length, course-bound, zero-at, marked-at, marked-length}
 
@@ -77,10 +78,6 @@ pub data SeatOf (block : Block) : Seat → Type 0 where
 
 swap-mod : (a b : ℕ) → (a + b) % 2 ≡ (b + a) % 2
 swap-mod a b = ap (λ x. x % 2) (omega arith)
-
-map-cong : {A B : Type 0} (f g : A → B) (xs : List A) → ((x : A) → f x ≡ g x) → map f xs ≡ map g xs
-map-cong f g [] h = refl
-map-cong f g (x ∷ xs) h = let a = h x in let b = map-cong f g xs h in cc
 
 -- the question depends on the sums alone
 question-cong : (code : Code) (class : ℕ) (kinds rounds sa sb ta tb a b c d : List ℕ)

@@ -32,7 +32,7 @@ use Rattle.protocol.specs.Turning.{turnDone, taken, after, concluded, disclosi
 use Rattle.protocol.specs.Steps.{sayDone, keyDone, keyWritten}
 use Rattle.protocol.specs.Guarantee.{shiftReply, addFront}
 use Rattle.protocol.specs.declared.terms.Hearing.the-variants.{Fresh, Repeat}
-use Rattle.protocol.proofs.Words.{same-bit, added-within, length-added, gathered-cong, gathered-length, gathered-added}
+use Rattle.protocol.proofs.Words.{map-cong, same-bit, added-within, length-added, gathered-cong, gathered-length, gathered-added}
 
 -- the word added to an end's key
 abbrev pub shiftState : List ℕ → State → State
@@ -59,10 +59,6 @@ pub record Veiled (n : ℕ) (kinds word : List ℕ) (s : State) : Type 0 where
   pub key : IsKey n (s .key)
   pub rounds-long : length (s .rounds) ≡ n
   pub zeros : (i : ℕ) → (getD (s .rounds) i 0 ≡ 0 → ⊥) → getD word i 0 ≡ 0
-
-map-cong : {A B : Type 0} (f g : A → B) (xs : List A) → ((x : A) → f x ≡ g x) → map f xs ≡ map g xs
-map-cong f g [] h = refl
-map-cong f g (x ∷ xs) h = let a = h x in let b = map-cong f g xs h in cc
 
 -- what key writes, with the word's raw bits added to its front
 laid-shift : (bits raw buffer : List ℕ) → length raw ≡ length bits → ltb (length buffer) (length bits) ≡ false

@@ -16,6 +16,10 @@ use Rattle.codes.specs.Syndrome.{IsKey, syndrome, added}
 use Rattle.codes.proofs.Parities.{added-at, syndrome-added, syndrome-length}
 use Rattle.frames.specs.Writing.{gathered}
 
+pub map-cong : {A B : Type 0} (f g : A → B) (xs : List A) → ((x : A) → f x ≡ g x) → map f xs ≡ map g xs
+map-cong f g [] h = refl
+map-cong f g (x ∷ xs) h = let a = h x in let b = map-cong f g xs h in cc
+
 pub length-added : (a b : List ℕ) → length (added a b) ≡ length a
 length-added a b = length-map-counting (λ i. (getD a i 0 + getD b i 0) % 2) 0 (length a)
 
