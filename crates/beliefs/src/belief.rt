@@ -1,8 +1,7 @@
-ghost use Rattle.std.specs.Prelude.{◌≡◌, ℤ, pos, neg_ℤ, nat_abs, ◌+ℤ◌, ◌-ℤ◌};
+ghost use Rattle.std.specs.Prelude.{◌≡◌, ℤ, pos, neg_ℤ, nat_abs, ◌+ℤ◌, ◌-ℤ◌, refl};
 ghost use Rattle.std.specs.Int.Signed.{lt_z};
 ghost use Rattle.codes.specs.Tells.{sign_bit};
 ghost use Rattle.beliefs.specs.Steps.{Small};
-ghost use Rattle.std.proofs.Common.{rules};
 
 use codes::TellsBit;
 
@@ -65,7 +64,7 @@ impl Belief for i32 {
 
     ghost exact = { λ _. Unit {0} };
 
-    ghost tells = { Prim.search rules };
+    ghost tells = { λ _ _. refl };
 
     fn of(steps: u16) -> i32 {
         steps as i32

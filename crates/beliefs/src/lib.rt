@@ -1,3 +1,5 @@
+#![tactic(auto)]
+
 // Beliefs: what passes between positions and checks, whatever number holds it.
 mod belief;
 mod bounds;

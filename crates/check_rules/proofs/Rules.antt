@@ -1,7 +1,7 @@
 -- The rules keep their bounds.
 use Rattle.std.proofs.Common.{◌≡◌, ℕ, zero, suc, ◌-◌, ◌<◌, ◌≤◌, min, max, eqb, List, [], ◌∷◌, length, get_or, sum_by, ⊎_elim, arith}
 use mathlib.Core.Path.{fun_ext}
-use Rattle.std.specs.List.{AllByRecursion as All}
+use Rattle.std.specs.List.{AllByRecursion}
 use Rattle.std.proofs.ByRecursion.{All-get_or}
 use Rattle.std.proofs.lemmas.List.{get_or_past}
 use Rattle.std.proofs.lemmas.Bool.{cases_lt, cond_both}
@@ -15,7 +15,7 @@ folded_low : (k : ℕ) (xs : List ℕ) → smallest k xs ≤ k
 folded_low k [] = omega arith
 folded_low k (x ∷ xs) = omega (arith, folded_low (min k x) xs)
 
-offset-raw : All (λ x. (1 ≤ x) × (x ≤ 800)) offset_raw
+offset-raw : AllByRecursion (λ x. (1 ≤ x) × (x ≤ 800)) offset_raw
 offset-raw = search arith
 
 pub offset-sound : SoundMeaning offset_rule

@@ -1,3 +1,5 @@
+#![tactic(auto)]
+
 // Check rules: what a check sends to its positions.
 mod offset;
 mod refusal;

@@ -1,5 +1,5 @@
 ghost use Rattle.std.specs.Prelude.{◌≡◌, ℕ, ◌-◌, ◌≤◌, [], ◌∷◌, map, pos, neg_ℤ};
-ghost use Rattle.std.specs.List.{AllByRecursion as All};
+ghost use Rattle.std.specs.List.{AllByRecursion};
 ghost use Rattle.check_rules.specs.Lows.{LowsOf};
 ghost use Rattle.check_rules.specs.Offset.{offset_rule};
 
@@ -52,7 +52,7 @@ impl<B: Belief> CheckRule<B> for OffsetRule {
 
     ghost tallied = { λ _ xs t. B.Belief.exact t.least × B.Belief.exact t.next × ((a : ℕ) × (b : ℕ) × (B.Belief.eighths t.least ≡ pos a) × (B.Belief.eighths t.next ≡ pos b) × LowsOf 800 xs a b) };
 
-    ghost replies = { λ _ xs t. B.Belief.exact t.least × All B.Belief.exact t.sent × ((a : ℕ) × (b : ℕ) × (B.Belief.eighths t.least ≡ pos a) × (map B.Belief.eighths t.sent ≡ pos (b - 4) ∷ pos (a - 4) ∷ neg_ℤ (pos (b - 4)) ∷ neg_ℤ (pos (a - 4)) ∷ []) × LowsOf 800 xs a b) };
+    ghost replies = { λ _ xs t. B.Belief.exact t.least × AllByRecursion B.Belief.exact t.sent × ((a : ℕ) × (b : ℕ) × (B.Belief.eighths t.least ≡ pos a) × (map B.Belief.eighths t.sent ≡ pos (b - 4) ∷ pos (a - 4) ∷ neg_ℤ (pos (b - 4)) ∷ neg_ℤ (pos (a - 4)) ∷ []) × LowsOf 800 xs a b) };
 
     fn known(&self) -> B {
         B::of(KNOWN)

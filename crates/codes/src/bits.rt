@@ -29,7 +29,7 @@ impl TellsBit for i32 {
 
 // The sum modulo 2 of the bits told at the positions; a position past the end adds nothing.
 pub fn parity<B: TellsBit>(bits: &[B], positions: &[u16]) -> u8
-    ensures { result ≡ parity_of (map told bits.now) positions.now }
+    ensures { result ≡ parity_of (map B.told bits.now) positions.now }
 {
     let mut sum = 0u8;
     for p in positions {

@@ -1,3 +1,5 @@
+#![tactic(auto)]
+
 // Parity-check matrices: what tells a bit, one parity, admission and the syndrome.
 mod admission;
 mod bits;

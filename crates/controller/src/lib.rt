@@ -1,3 +1,5 @@
+#![tactic(auto)]
+
 // The functions that the link controller, a C program, calls: numbers and byte slices in, a reply of plain numbers out.
 mod frame;
 mod matrix;

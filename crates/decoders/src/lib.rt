@@ -1,3 +1,5 @@
+#![tactic(auto)]
+
 // Decoders: a question about a matrix, the test of a pattern, and what every decoder promises.
 mod decoder;
 mod fit;

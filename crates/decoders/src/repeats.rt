@@ -32,10 +32,10 @@ pub fn asks_twice<D: Decoder>(
     work: &mut [i32],
 ) -> Result<(), DecoderRefusal>
     ensures outcome { MatchResult result
-        (λ _. Enough (room decoder.old) (code_of first.entry.matrix.now) first.entry.difference.now first.entry.states.now pattern.old confidence.old work.old
-        × Enough (room decoder.old) (code_of again.entry.matrix.now) again.entry.difference.now again.entry.states.now pattern_again.old confidence_again.old work.old)
-        (λ _. Enough (room decoder.old) (code_of first.entry.matrix.now) first.entry.difference.now first.entry.states.now pattern.old confidence.old work.old
-        × Enough (room decoder.old) (code_of again.entry.matrix.now) again.entry.difference.now again.entry.states.now pattern_again.old confidence_again.old work.old → ⊥) }
+        (λ _. Enough (D.room decoder.old) (code_of first.entry.matrix.now) first.entry.difference.now first.entry.states.now pattern.old confidence.old work.old
+        × Enough (D.room decoder.old) (code_of again.entry.matrix.now) again.entry.difference.now again.entry.states.now pattern_again.old confidence_again.old work.old)
+        (λ _. Enough (D.room decoder.old) (code_of first.entry.matrix.now) first.entry.difference.now first.entry.states.now pattern.old confidence.old work.old
+        × Enough (D.room decoder.old) (code_of again.entry.matrix.now) again.entry.difference.now again.entry.states.now pattern_again.old confidence_again.old work.old → ⊥) }
     ensures alike { MatchResult result
         (λ _. asked (code_of first.entry.matrix.now) first.entry.difference.now first.entry.states.now first.entry.q
         ≡ asked (code_of again.entry.matrix.now) again.entry.difference.now again.entry.states.now again.entry.q

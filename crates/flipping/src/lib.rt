@@ -1,3 +1,5 @@
+#![tactic(auto)]
+
 // Bit flipping: a decoder that turns one position at a time.
 mod choice;
 mod confidence;

@@ -1,3 +1,5 @@
+#![tactic(auto)]
+
 // Frames: what one end tells the other, as bytes.
 mod frame;
 mod numbers;

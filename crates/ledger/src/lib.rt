@@ -1,3 +1,5 @@
+#![tactic(auto)]
+
 // The account of closed blocks: a note that must be booked, and the ledger that it is booked in.
 mod booking;
 mod ledger;

@@ -1,6 +1,6 @@
 -- What a check sends back, place after place.
 use Rattle.std.proofs.Common.{◌≡◌, ℕ, suc, ◌+◌, ◌-◌, ◌%◌, ◌<◌, ◌≤◌, eqb, ◌≢◌, List, [], ◌∷◌, map, length, get_or, take, drop, set, ℤ, pos, negsuc, neg_ℤ, nat_abs, sym, refl, ap, ◌∙◌, arith}
-use Rattle.std.specs.List.{remove, AllByRecursion as All}
+use Rattle.std.specs.List.{remove, AllByRecursion}
 use Rattle.std.proofs.lemmas.List.Sums.{get_or-le-sum_by}
 use Rattle.std.proofs.ByRecursion.{sum_by_le, All-set}
 use Rattle.std.proofs.lemmas.List.FromFn.{fill_by_all}
@@ -70,7 +70,7 @@ module _ {X : Type 0} (exact : X → Type 0) (eighths : X → ℤ) (rule : Meani
 pub negatives-few : (xs : List ℤ) → negatives xs ≤ length xs
 negatives-few xs = omega (arith, sum_by_le sign_bit 1 xs (bits xs))
   where
-    bits : (xs : List ℤ) → All (λ x. sign_bit x ≤ 1) xs
+    bits : (xs : List ℤ) → AllByRecursion (λ x. sign_bit x ≤ 1) xs
     bits [] = tt
     bits (pos n ∷ xs) = (omega arith, bits xs)
     bits (negsuc n ∷ xs) = (omega arith, bits xs)

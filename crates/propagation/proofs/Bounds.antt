@@ -1,6 +1,6 @@
 -- How large beliefs grow, and that every answer is well formed.
 use Rattle.std.proofs.Common.{◌≡◌, ℕ, zero, suc, ◌+◌, ◌*◌, ◌<◌, ◌≤◌, List, [], ◌∷◌, map, length, get_or, take, ℤ, pos, negsuc, ◌+ℤ◌, nat_abs, ◌∙◌, arith}
-use Rattle.std.specs.List.{range_with_len, remove, AllByRecursion as All}
+use Rattle.std.specs.List.{range_with_len, remove, AllByRecursion}
 use Rattle.std.proofs.lemmas.List.FromFn.{get_or-map-range_with_len, length-map-range_with_len}
 use Rattle.std.proofs.ByRecursion.{All-append, All-map, All-get_or}
 use Rattle.std.proofs.lemmas.List.{get_or-map, length-map, take_all}
@@ -19,7 +19,7 @@ use Rattle.propagation.proofs.Courses.{stops_early}
 use Rattle.propagation.proofs.Priors.{prior-low}
 use Rattle.propagation.proofs.Totals.{totalled_size}
 
-every : {X : Type 0} (P : X → Type 0) → ((x : X) → P x) → (xs : List X) → All P xs
+every : {X : Type 0} (P : X → Type 0) → ((x : X) → P x) → (xs : List X) → AllByRecursion P xs
 every P h [] = tt
 every P h (x ∷ xs) = (h x, every P h xs)
 
@@ -28,11 +28,11 @@ bit-low (pos n) = omega arith
 bit-low (negsuc n) = omega arith
 
 module _ (rule : Meaning) (sound : SoundMeaning rule) where
-  priors-low : (class : ℕ) (states : List State) → All (λ z. nat_abs z ≤ rule.known) (priors rule class states)
+  priors-low : (class : ℕ) (states : List State) → AllByRecursion (λ z. nat_abs z ≤ rule.known) (priors rule class states)
   unfolding priors
   priors-low class states = All-map (λ z. nat_abs z ≤ rule.known) (prior rule class) states (every _ (prior-low rule sound class) states)
 
-  answers-low : (bit : ℕ) (xs : List ℤ) → All (λ z. nat_abs z ≤ rule.known) (answers rule bit xs)
+  answers-low : (bit : ℕ) (xs : List ℤ) → AllByRecursion (λ z. nat_abs z ≤ rule.known) (answers rule bit xs)
   unfolding answers
   answers-low bit xs =
       All-map (λ z. nat_abs z ≤ rule.known) (answer rule bit xs) (range_with_len 0 (length xs))
@@ -40,7 +40,7 @@ module _ (rule : Meaning) (sound : SoundMeaning rule) where
       (λ i. rw (size-signed (negatives (remove xs i) + bit) (rule.sends (map nat_abs (remove xs i)))) (sound.sends_high (map nat_abs (remove xs i))))
       (range_with_len 0 (length xs)))
 
-  sent-low : (ps ends ds : List ℕ) (totals sent : List ℤ) (k : ℕ) → All (λ z. nat_abs z ≤ rule.known) (sent_up_to rule ps ends ds totals sent k)
+  sent-low : (ps ends ds : List ℕ) (totals sent : List ℤ) (k : ℕ) → AllByRecursion (λ z. nat_abs z ≤ rule.known) (sent_up_to rule ps ends ds totals sent k)
   unfolding sent_up_to
   sent-low ps ends ds totals sent zero = tt
   sent-low ps ends ds totals sent (suc k) =

@@ -1,6 +1,6 @@
 -- A loop that writes each place anew, whatever it held.
 use Rattle.std.proofs.Common.{◌≡◌, ℕ, zero, suc, ◌+◌, ◌<◌, ◌≢◌, List, [], ◌∷◌, map, length, get_or, set, replicate, sym, refl, ap, ◌∙◌, subst, ⊎_elim, arith}
-use Rattle.std.specs.List.{range_with_len, AllByRecursion as All}
+use Rattle.std.specs.List.{range_with_len, AllByRecursion}
 use Rattle.std.proofs.ByRecursion.{all_from_every}
 use Rattle.std.proofs.lemmas.List.{get_or-set_same, get_or-set_other}
 use Rattle.std.proofs.lemmas.Bool.{cases_eq}
@@ -38,7 +38,7 @@ module _ {X Y : Type 0} (P : X → Type 0) (value : X → Y) where
       there : (j : ℕ) (d : X) → j ≢ i → get_or (set xs i x) j d ≡ get_or xs j d
       there j d other = get_or-set_other xs i j x d other
 
-  pub filled_fine : (f : ℕ → Y) (xs : List X) → FilledUpTo P value f xs (length xs) → All P xs
+  pub filled_fine : (f : ℕ → Y) (xs : List X) → FilledUpTo P value f xs (length xs) → AllByRecursion P xs
   filled_fine f xs inv = all_from_every P xs (λ j d low h. inv.fine j d h)
 
   pub filled_from : (f : ℕ → Y) (a : ℕ) (xs : List X)

@@ -1,7 +1,7 @@
 -- Check after check, what is sent takes the place of what was last sent.
 use Rattle.std.proofs.Common.{◌≡◌, ℕ, zero, suc, ◌+◌, ◌-◌, ◌<◌, ◌≤◌, List, ◌++◌, map, length, get_or, take, drop, ℤ, sym, refl, ap, ◌∙◌, add-one, arith}
 use borrow.Rule.Slice.PartMut.{put_mid}
-use Rattle.std.specs.List.{between, AllByRecursion as All}
+use Rattle.std.specs.List.{between, AllByRecursion}
 use Rattle.std.proofs.lemmas.List.FromFn.{length-map-range_with_len}
 use Rattle.std.proofs.lemmas.List.Edits.{length-between}
 use Rattle.std.proofs.ByRecursion.{All-append, All-take, All-drop}
@@ -66,7 +66,7 @@ module _ {X : Type 0} (f : X → ℤ) (now : List X) (done last : List ℤ) (a :
       ∙ rw (front, map-append f part (drop (e - a) (drop a now)), rest) (sym (append_assoc done (map f part) (drop e last)))
 
 -- what holds of every element holds after a part is put
-pub all_put : {X : Type 0} (P : X → Type 0) (a k : ℕ) (now part : List X) → All P now → All P part → All P (put_mid a k now part)
+pub all_put : {X : Type 0} (P : X → Type 0) (a k : ℕ) (now part : List X) → AllByRecursion P now → AllByRecursion P part → AllByRecursion P (put_mid a k now part)
 all_put P a k now part all new =
     All-append P (take a now) (part ++ drop k (drop a now)) (All-take P a now all)
     (All-append P part (drop k (drop a now)) new (All-drop P k (drop a now) (All-drop P a now all)))

@@ -1,6 +1,6 @@
 -- The bits that beliefs tell are the signs of what they mean.
 use Rattle.std.proofs.Common.{◌≡◌, ℕ, ◌<◌, List, [], ◌∷◌, map, length, get_or, ℤ, pos, refl, ap, ◌∙◌}
-use Rattle.std.specs.List.{AllByRecursion as All}
+use Rattle.std.specs.List.{AllByRecursion}
 use Rattle.std.proofs.lemmas.List.{get_or-map, length-map}
 use Rattle.codes.specs.Tells.{sign_bit}
 use Rattle.propagation.specs.Course.{pattern_of}
@@ -8,7 +8,7 @@ use Rattle.propagation.proofs.Elements.{read-map}
 
 module _ {X : Type 0} (exact : X → Type 0) (eighths : X → ℤ) (told : X → ℕ)
     (tells : (x : X) → exact x → told x ≡ sign_bit (eighths x)) where
-  pub told_signs : (xs : List X) → All exact xs → map told xs ≡ pattern_of (map eighths xs)
+  pub told_signs : (xs : List X) → AllByRecursion exact xs → map told xs ≡ pattern_of (map eighths xs)
   told_signs [] all = refl
   told_signs (x ∷ xs) (here, all) = let a = tells x here in let b = told_signs xs all in cc
 

@@ -1,7 +1,7 @@
 -- Totals, entry after entry, and how large they grow.
 use Rattle.std.proofs.Common.{◌≡◌, ℕ, zero, suc, ◌+◌, ◌*◌, ◌<◌, ◌≤◌, Bool, true, false, cond, eqb, ◌≢◌, List, [], ◌∷◌, map, length, get_or, take, set, ℤ, pos, ◌+ℤ◌, nat_abs, sym, refl, ap, ◌∙◌, ⊎_elim, mul-le-mul_right, add-mul, add-one, arith}
 use lib.IntN.{+ℤ_assoc, +ℤ_idl, +ℤ_idr}
-use Rattle.std.specs.List.{AllByRecursion as All}
+use Rattle.std.specs.List.{AllByRecursion}
 use Rattle.std.proofs.lemmas.List.FromFn.{fill_by_all}
 use Rattle.std.proofs.ByRecursion.{All-take, All-map, All-weaker, All-get_or, all_from_every}
 use Rattle.std.proofs.lemmas.List.{get_or-set_same, get_or-set_other, get_or-map, length-map, take_all}
@@ -24,7 +24,7 @@ sent_more i (p ∷ ps) (s ∷ ss) (suc j) h l =
     ap (λ z. cond (eqb p i) s (pos 0) +ℤ z) (sent_more i ps ss j (omega arith) (omega arith))
     ∙ sym (+ℤ_assoc (cond (eqb p i) s (pos 0)) (sent_to i (take j ps) (take j ss)) (cond (eqb (get_or ps j 0) i) (get_or ss j (pos 0)) (pos 0)))
 
-pub sent-size : (k i : ℕ) (ps : List ℕ) (ss : List ℤ) → All (λ s. nat_abs s ≤ k) ss → nat_abs (sent_to i ps ss) ≤ degree ps i * k
+pub sent-size : (k i : ℕ) (ps : List ℕ) (ss : List ℤ) → AllByRecursion (λ s. nat_abs s ≤ k) ss → nat_abs (sent_to i ps ss) ≤ degree ps i * k
 sent-size k i [] ss all = omega arith
 sent-size k i (p ∷ ps) [] all = omega arith
 sent-size k i (p ∷ ps) (s ∷ ss) (here, all) =
@@ -90,7 +90,7 @@ module _ (priors : List ℤ) (ps : List ℕ) (ss : List ℤ) where
 
   -- within 17 times the largest belief
   pub totalled_size : (k j i : ℕ)
-      → All (λ z. nat_abs z ≤ k) ss
+      → AllByRecursion (λ z. nat_abs z ≤ k) ss
       → nat_abs (get_or priors i (pos 0)) ≤ k
       → degree ps i ≤ 16
       → nat_abs (get_or priors i (pos 0) +ℤ sent_to i (take j ps) (take j ss)) ≤ 17 * k
@@ -116,7 +116,7 @@ module _ (priors : List ℤ) (ps : List ℕ) (ss : List ℤ) where
 -- magnitudes of fine beliefs
 pub fine-sizes : {X : Type 0} (exact : X → Type 0) (eighths : X → ℤ) (k : ℕ) (xs : List X)
     → Within exact eighths k xs
-    → All (λ z. nat_abs z ≤ k) (map eighths xs)
+    → AllByRecursion (λ z. nat_abs z ≤ k) (map eighths xs)
 fine-sizes exact eighths k xs fine =
     All-map (λ z. nat_abs z ≤ k) eighths xs (All-weaker (Fine exact eighths k) (λ x. nat_abs (eighths x) ≤ k) (λ x h. h.1) xs fine)
 
@@ -133,7 +133,7 @@ pub totals-fine : {X : Type 0} (exact : X → Type 0) (eighths : X → ℤ) (k j
     → AllBelow (λ i. degree ps i ≤ 16) (length priors)
     → Within exact eighths k priors
     → Within exact eighths k sent
-    → All exact totals
+    → AllByRecursion exact totals
     → TotalledUpTo (map eighths priors) ps (map eighths sent) (map eighths totals) j
     → Within exact eighths (17 * k) totals
 totals-fine exact eighths k j priors totals ps sent long few low fine whole inv =

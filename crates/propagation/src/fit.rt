@@ -1,5 +1,5 @@
 ghost use Rattle.std.specs.Prelude.{◌≡◌, ◌&&◌, map, length};
-ghost use Rattle.std.specs.List.{AllByRecursion as All};
+ghost use Rattle.std.specs.List.{AllByRecursion};
 ghost use Rattle.codes.specs.Admission.{SoundCheck};
 ghost use Rattle.codes.specs.Places.{AllBelow};
 ghost use Rattle.decoders.specs.Fit.{all_below, meets, agrees_at};
@@ -14,7 +14,7 @@ use decoders::State;
 fn checks_fit<B: Belief>(positions: &[u16], ends: &[u16], difference: &[u8], totals: &[B]) -> bool
     requires checks { AllBelow (SoundCheck positions.now ends.now) (length ends.now) }
     requires differs { length difference.now ≡ length ends.now }
-    requires whole { All B.Belief.exact totals.now }
+    requires whole { AllByRecursion B.Belief.exact totals.now }
     ensures { result ≡ all_below (meets positions.now ends.now (map bit_of difference.now) (pattern_of (map B.Belief.eighths totals.now))) (length ends.now) }
 {
     let mut start = 0usize;
@@ -31,7 +31,7 @@ fn checks_fit<B: Belief>(positions: &[u16], ends: &[u16], difference: &[u8], tot
 // Whether the sign at every known position tells its known bit.
 fn known_fit<B: Belief>(states: &[State], totals: &[B]) -> bool
     requires long { length totals.now ≡ length states.now }
-    requires whole { All B.Belief.exact totals.now }
+    requires whole { AllByRecursion B.Belief.exact totals.now }
     ensures { result ≡ all_below (agrees_at states.now (pattern_of (map B.Belief.eighths totals.now))) (length states.now) }
 {
     for i in 0..states.len() {
@@ -53,7 +53,7 @@ pub(crate) fn signs_fit<B: Belief>(
     requires checks { AllBelow (SoundCheck positions.now ends.now) (length ends.now) }
     requires differs { length difference.now ≡ length ends.now }
     requires long { length totals.now ≡ length states.now }
-    requires whole { All B.Belief.exact totals.now }
+    requires whole { AllByRecursion B.Belief.exact totals.now }
     ensures { result ≡ (all_below (meets positions.now ends.now (map bit_of difference.now) (pattern_of (map B.Belief.eighths totals.now))) (length ends.now) && all_below (agrees_at states.now (pattern_of (map B.Belief.eighths totals.now))) (length states.now)) }
 {
     checks_fit(positions, ends, difference, totals) && known_fit(states, totals)

@@ -1,3 +1,5 @@
+#![tactic(auto)]
+
 // Belief propagation over any check rule.
 mod check;
 mod course;

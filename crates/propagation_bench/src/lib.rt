@@ -1,3 +1,5 @@
+#![tactic(auto)]
+
 // What the benchmark calls from C: one question asked many times, by the offset rule or by tables.
 use check_rules::{OffsetRule, TableRule};
 use codes::Matrix;

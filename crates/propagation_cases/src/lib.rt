@@ -1,3 +1,5 @@
+#![tactic(auto)]
+
 // Worked cases of propagation, each computed from its definition.
 mod worked;
 

@@ -1,3 +1,5 @@
+#![tactic(auto)]
+
 // The protocol of an end: its plain types, in specs/ the model of the calls, of runs, and the guarantee, proved.
 mod guarantee;
 mod plan;

@@ -1,3 +1,5 @@
+#![tactic(auto)]
+
 // Replays a script of calls from standard input and prints what each did.
 mod command;
 mod decoding;

@@ -1,3 +1,5 @@
+#![tactic(auto)]
+
 // The kinds of positions, and why each of an end's six calls is refused.
 mod kind;
 mod refusal;

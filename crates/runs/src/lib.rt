@@ -1,3 +1,5 @@
+#![tactic(auto)]
+
 // Runs of bits, packed into bytes from the highest bit on.
 mod packing;
 mod run;

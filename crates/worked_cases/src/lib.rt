@@ -1,3 +1,5 @@
+#![tactic(auto)]
+
 // The worked cases on the six-position matrix, each computed from the definitions.
 ghost use Rattle.std.specs.Prelude.{◌≡◌};
 ghost use Rattle.codes.specs.Syndrome.{syndrome as syndrome_of};
@@ -5,11 +7,11 @@ ghost use Rattle.worked_cases.specs.Six.{six_positions, alice_key};
 
 mod block;
 mod naming;
-mod runs;
+mod whole_runs;
 
 pub use block::Ending;
 pub use naming::{first_turn, step_one_names, step_two_names};
-pub use runs::{
+pub use whole_runs::{
     agreed_key, alice_discloses, alice_ends, bob_ends, companion_word, disclosed, wrong_key,
 };
 

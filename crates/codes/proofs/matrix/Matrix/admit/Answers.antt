@@ -10,19 +10,13 @@ invariant_of-result c =
     rw (c.as_slice.ensures.value, c.as_slice-2.ensures.value) at c.in_default.ensures in
     let e : vec_len c.args.ends ≡ c.args.m = omega (arith, c.args.ends.ok.0, a.sizes.2) in
     let p : vec_len c.args.positions ≡ length ps = c.args.positions.ok.0 in
-    let s = a.sizes.0 in (
-      (s.0, s.1, omega (arith, s.2), omega (arith, s.3), omega (arith, s.4)),
-      (
-        omega (arith, a.sizes.1),
-        (
-          λ k h. (a.checks k (omega arith)).0,
-          (
-            λ k h. (a.checks k (omega arith)).1,
-            (
-              λ k h. (a.checks k (omega arith)).2,
-              (λ k h. (a.entries k (omega arith)).0, (λ k h. (a.entries k (omega arith)).1, (λ k h. a.places k h, tt))),
-            ),
-          ),
-        ),
-      ),
-    )
+    let s = a.sizes.0 in record {
+      sizes = (s.0, s.1, omega (arith, s.2), omega (arith, s.3), omega (arith, s.4));
+      entries = omega (arith, a.sizes.1);
+      filled = λ k h. (a.checks k (omega arith)).0;
+      small = λ k h. (a.checks k (omega arith)).1;
+      closed = λ k h. (a.checks k (omega arith)).2;
+      within = λ k h. (a.entries k (omega arith)).0;
+      rises = λ k h. (a.entries k (omega arith)).1;
+      places = λ k h. a.places k h;
+    }

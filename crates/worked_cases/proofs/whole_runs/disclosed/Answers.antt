@@ -3,7 +3,7 @@ use Rattle.protocol.specs.Reading.{disclosed_in}
 use Rattle.worked_cases.specs.Block.{alice, bob}
 use Rattle.worked_cases.proofs.Computed.{computed}
 use Rattle.worked_cases.proofs.Premised.{premised}
-use Rattle.worked_cases.proofs.runs.disclosed.Goals as goal
+use Rattle.worked_cases.proofs.whole_runs.disclosed.Goals as goal
 
 pub returns : goal.returns
 returns c =

@@ -1,6 +1,6 @@
 use Rattle.protocol.specs.Reading.{here, there}
 use Rattle.worked_cases.proofs.Computed.{computed}
-use Rattle.worked_cases.proofs.runs.agreed_key.Goals as goal
+use Rattle.worked_cases.proofs.whole_runs.agreed_key.Goals as goal
 
 pub returns : goal.returns
 returns c =

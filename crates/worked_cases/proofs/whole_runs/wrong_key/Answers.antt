@@ -3,7 +3,7 @@ use Rattle.propagation.specs.Course.{propagation_room}
 use Rattle.protocol.specs.Reading.{here, there}
 use Rattle.worked_cases.specs.Six.{six_positions}
 use Rattle.worked_cases.proofs.Computed.{computed}
-use Rattle.worked_cases.proofs.runs.wrong_key.Goals as goal
+use Rattle.worked_cases.proofs.whole_runs.wrong_key.Goals as goal
 
 pub returns : goal.returns
 returns c =
