@@ -1,9 +1,9 @@
 -- Where an entry lies: the checks of a sound run do not overlap.
-use Rattle.std.proofs.Common.{◌≡◌, ℕ, zero, suc, ◌+◌, ◌-◌, ◌<◌, ◌≤◌, ◌⊎◌, List, length, get_or, ap, inl, inr, ⊎_elim, add-one, arith}
+use Rattle.std.proofs.Common.{◌≡◌, ℕ, zero, suc, ◌+◌, ◌-◌, ◌<◌, ◌≤◌, List, length, get_or, ap, ⊎_elim, add-one, arith}
 use Rattle.std.proofs.lemmas.Bool.{cases_order, cases_eq}
 use Rattle.codes.specs.Places.{AllBelow}
 use Rattle.codes.specs.Code.{start, end}
-use Rattle.codes.specs.Admission.{Filled, Follows, Rises, SoundCheck}
+use Rattle.codes.specs.Admission.{Filled, Rises, SoundCheck}
 
 module _ (ends : List ℕ) (filled : AllBelow (Filled ends) (length ends)) where
   -- a check ends before any later one begins

@@ -1,5 +1,5 @@
 -- At most one refusal is due.
-use Rattle.std.proofs.Common.{◌≡◌, ℕ, ◌<◌, List, refl, ap, ⊎_elim, arith}
+use Rattle.std.proofs.Common.{◌≡◌, ℕ, List, refl, ap, ⊎_elim}
 use Rattle.std.proofs.lemmas.Bool.{cases_order}
 use Rattle.codes.specs.Places.{FirstFault}
 use Rattle.codes.specs.Admission.{Admissible, Refused, OneRefusal, SoundCheck, SoundEntry, SoundPosition}

@@ -3,7 +3,6 @@ use Rattle.std.specs.Prelude.{◌≡◌, ℕ, List, Ok, Err, Result}
 use Rattle.codes.specs.Admission.{Admissible, Refused}
 use Rattle.codes.specs.Code.{Code}
 use Rattle.codes.specs.Syndrome.{SyndromeGiven}
-use Rattle.codes.specs.declared.refusal.SyndromeRefusal.{SyndromeRefusal}
 use Rattle.codes.specs.declared.refusal.CallRefusal.{CallRefusal}
 use Rattle.codes.specs.declared.refusal.CallRefusal.TheVariants.{Matrix, Syndrome}
 

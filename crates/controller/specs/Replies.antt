@@ -1,5 +1,5 @@
 -- What each call replies: 0 where it is accepted, else the number and place of the refusal that is due.
-use Rattle.std.specs.Prelude.{◌≡◌, ℕ, ◌⊎◌, List, Ok, Err, Result}
+use Rattle.std.specs.Prelude.{◌≡◌, ℕ, ◌⊎◌, List, Ok, Err}
 use Rattle.codes.specs.Admission.{Admissible, Refused}
 use Rattle.codes.specs.Lent.{LentSyndrome}
 use Rattle.codes.specs.Refusals.{matrix_number, matrix_place, call_number, call_place}

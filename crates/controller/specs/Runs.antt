@@ -1,5 +1,5 @@
 -- Runs of 16-bit numbers as bytes, highest byte first.
-use Rattle.std.specs.Prelude.{◌≡◌, ℕ, ◌+◌, ◌*◌, ◌/◌, ◌%◌, Bool, List, map, length, slice_index}
+use Rattle.std.specs.Prelude.{◌≡◌, ℕ, ◌+◌, ◌*◌, ◌/◌, ◌%◌, List, map, length, slice_index}
 use Rattle.std.specs.List.{range_with_len}
 
 unfoldable pub numbers16 : List ℕ → List ℕ

@@ -7,7 +7,7 @@ use Rattle.codes.specs.Code.{checks}
 use Rattle.decoders.specs.Question.{Question, bit_of}
 use Rattle.decoders.specs.Fit.{is_known, all_below, check_fits, place_fits, pattern_fits}
 use Rattle.decoders.specs.declared.state.State.{State}
-use Rattle.decoders.specs.declared.state.State.TheVariants.{Raw, Punctured, Known0, Known1}
+use Rattle.decoders.specs.declared.state.State.TheVariants.{Raw}
 use Rattle.decoders.proofs.Fits.{below_at}
 use Rattle.flipping.specs.Flips.{holding, misses, unmet_in, unmet, votes, most, leader, flipped, run}
 use Rattle.flipping.specs.Runs.{Asks}

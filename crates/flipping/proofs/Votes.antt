@@ -3,7 +3,7 @@ use Rattle.std.proofs.Common.{◌≡◌, ℕ, zero, suc, ◌+◌, ◌<◌, ◌�
 use Rattle.std.proofs.lemmas.Bool.{cases_eq, cases_lt, lt-ltb, le-ltb, cond-true, cond-false, cases_Bool}
 use Rattle.decoders.specs.Fit.{is_known}
 use Rattle.decoders.specs.declared.state.State.{State}
-use Rattle.decoders.specs.declared.state.State.TheVariants.{Raw, Punctured, Known0, Known1}
+use Rattle.decoders.specs.declared.state.State.TheVariants.{Raw}
 use Rattle.flipping.specs.Flips.{votes, most, leader}
 use Rattle.flipping.specs.Promises.{LeaderIsFirst}
 

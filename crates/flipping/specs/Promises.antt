@@ -3,7 +3,7 @@ use Rattle.std.specs.Prelude.{◌≡◌, ℕ, zero, suc, ◌<◌, ◌≤◌, tru
 use Rattle.decoders.specs.Question.{Question, SoundQuestion}
 use Rattle.decoders.specs.Fit.{is_known, place_fits}
 use Rattle.decoders.specs.declared.state.State.{State}
-use Rattle.decoders.specs.declared.state.State.TheVariants.{Raw, Punctured, Known0, Known1}
+use Rattle.decoders.specs.declared.state.State.TheVariants.{Raw}
 use Rattle.flipping.specs.Flips.{most, leader, flipped, start_bit, limit_of, flipping_rule}
 
 -- every known position has its known bit

@@ -2,7 +2,7 @@
 use Rattle.std.specs.Prelude.{[], ◌∷◌}
 use Rattle.codes.specs.Code.{Code}
 use Rattle.decoders.specs.Question.{Question, Answer}
-use Rattle.decoders.specs.declared.state.State.TheVariants.{Raw, Punctured, Known0, Known1}
+use Rattle.decoders.specs.declared.state.State.TheVariants.{Raw}
 
 -- checks {0, 1, 3}, {1, 2, 4} and {0, 2, 5}
 abbrev pub small_code : Code

@@ -1,5 +1,5 @@
 -- From what the reader finds, part after part, to what the bytes are read as.
-use Rattle.std.proofs.Common.{◌≡◌, ℕ, ◌+◌, ◌-◌, ◌<◌, ◌≤◌, max, true, false, cond, ◌||◌, eqb, ltb, ◌⊎◌, List, length, get_or, take, drop, Ok, Err, sum, sym, refl, ap, ◌∙◌, subst, ⊎_elim, arith, lit<}
+use Rattle.std.proofs.Common.{◌≡◌, ℕ, ◌+◌, ◌-◌, ◌<◌, ◌≤◌, max, true, false, cond, ◌||◌, eqb, ltb, List, length, get_or, take, drop, Ok, Err, sum, sym, refl, ap, ◌∙◌, subst, ⊎_elim, arith, lit<}
 use Rattle.std.proofs.lemmas.List.{length-drop}
 use Rattle.std.proofs.lemmas.Bool.{cases_lt, both_ways, ltb-true, eqb-true, lt-ltb, le-ltb, eq-eqb, ne_eqb, cond-true, cond-false, or_right, or_left, or_from}
 use Rattle.codes.specs.Places.{AllBelow, FirstFault}

@@ -1,11 +1,11 @@
 -- From the parts that a writer puts into the buffer, one behind the other, to the frame's bytes.
-use Rattle.std.proofs.Common.{◌≡◌, ℕ, ◌+◌, ◌-◌, ◌^◌, ◌<◌, ◌≤◌, ltb, List, ◌++◌, map, length, take, drop, Ok, Err, sum, Result, sym, refl, ap, ◌∙◌, append_assoc, arith}
+use Rattle.std.proofs.Common.{◌≡◌, ℕ, ◌+◌, ◌-◌, ◌^◌, ◌<◌, ◌≤◌, ltb, List, ◌++◌, map, length, take, drop, Ok, Err, sum, Result, sym, ap, ◌∙◌, append_assoc, arith}
 use borrow.Rule.Slice.PartMut.{put_mid}
 use Rattle.std.proofs.lemmas.List.{length-append, length-take, length-drop, length-map, take_at, drop_at, drop-drop}
 use Rattle.std.proofs.lemmas.Bool.{lt-ltb, le-ltb, cond-true, cond-false}
 use Rattle.runs.specs.Bits.{bit_of, bytes_for, packed, packed_to}
 use Rattle.runs.proofs.Packed.{length-packed_to, bits_of_bytes}
-use Rattle.frames.specs.Shape.{FrameShape, syndrome_frame}
+use Rattle.frames.specs.Shape.{syndrome_frame}
 use Rattle.frames.specs.Format.{head_bytes, frame_bytes}
 use Rattle.frames.specs.Reading.{read_shape}
 use Rattle.frames.specs.Writing.{laid, room_for, map_of, gathered, in_round, key_bit, disclosure_of}

@@ -1,15 +1,15 @@
 -- What else holds of the calls.
-use Rattle.std.proofs.Common.{◌≡◌, ℕ, ◌≤◌, true, false, ◌⊎◌, List, ◌∷◌, get_or, sym, refl, ap, ◌∙◌, subst, ⊎_elim, arith}
+use Rattle.std.proofs.Common.{◌≡◌, ℕ, get_or, sym, refl, ap, ◌∙◌, subst, ⊎_elim, arith}
 use Rattle.std.proofs.lemmas.Bool.{ne_eqb, and_parts}
 use Rattle.decoders.specs.Decoding.{Rule}
 use Rattle.frames.specs.Format.{frame_bytes}
 use Rattle.protocol.specs.Asking.{chosen, share, unknown_at}
 use Rattle.protocol.specs.State.{Held, idle, opened}
-use Rattle.protocol.specs.Calls.{Call, Reply, open_call, say_call, hear_call, turn_call, key_call, close_call, refused, says, begins}
+use Rattle.protocol.specs.Calls.{Call, open_call, say_call, hear_call, turn_call, key_call, close_call, refused, says}
 use Rattle.protocol.specs.Hearing.{hear_done}
 use Rattle.protocol.specs.Turning.{turn_done}
 use Rattle.protocol.specs.Steps.{step_of, open_done, say_done, key_done}
-use Rattle.protocol.specs.Runs.{Ask, held_after, log_of}
+use Rattle.protocol.specs.Runs.{log_of}
 use Rattle.protocol.specs.Reading.{Among, event}
 use Rattle.protocol.specs.Theorems.{NamesExactly, RefusalKeeps, OthersKeep, SameFrames}
 use Rattle.protocol.proofs.Course.{judged-names, judged-share, map_of_one}

@@ -1,25 +1,23 @@
 -- The one course of a block: from its plan, matrix and both keys, what is disclosed in each round and what each turn decides.
-use Rattle.std.proofs.Common.{◌≡◌, ℕ, zero, suc, ◌+◌, ◌-◌, ◌%◌, ◌<◌, ◌≤◌, min, Bool, true, false, cond, not, ◌&&◌, ◌||◌, eqb, ltb, ◌⊎◌, List, [], ◌∷◌, ◌++◌, map, length, get_or, replicate, sum, sym, refl, ap, ◌∙◌, subst, inl, inr, ⊎_elim, add-one, arith}
-use Rattle.std.specs.List.{range_with_len}
+use Rattle.std.proofs.Common.{◌≡◌, ℕ, zero, suc, ◌+◌, ◌-◌, ◌%◌, ◌<◌, ◌≤◌, Bool, true, false, cond, not, eqb, List, map, length, get_or, replicate, sum, sym, refl, ap, ◌∙◌, ⊎_elim, add-one, arith}
 use Rattle.std.proofs.lemmas.List.{length-replicate, get_or-replicate, get_or_past}
 use Rattle.std.proofs.lemmas.List.FromFn.{length-map-range_with_len, get_or-map-range_with_len}
-use Rattle.std.proofs.lemmas.Bool.{cases_lt, cases_eq, cases_Bool, eqb-true, eqb-false, ltb-true, eq-eqb, ne_eqb, and_parts, both_ways}
-use Rattle.codes.specs.Code.{Code, checks}
+use Rattle.std.proofs.lemmas.Bool.{cases_lt, cases_eq, cases_Bool, eqb-true, eqb-false, eq-eqb, ne_eqb, and_parts, both_ways}
+use Rattle.codes.specs.Code.{Code}
 use Rattle.codes.specs.Syndrome.{syndrome}
-use Rattle.decoders.specs.Question.{Question, Answer}
+use Rattle.decoders.specs.Question.{Question}
 use Rattle.decoders.specs.Fit.{pattern_fits, all_below, is_known}
 use Rattle.decoders.specs.Decoding.{Rule}
-use Rattle.decoders.specs.declared.state.State.{State as Knowledge}
 use Rattle.decoders.specs.declared.state.State.TheVariants.{Raw, Punctured, Known0, Known1}
 use Rattle.frames.specs.Writing.{map_of, in_round}
 use Rattle.frames.proofs.Gathered.{length-map_of, sum-map_of_more, map_of-none}
 use Rattle.protocol.specs.Counting.{tally, list_of}
 use Rattle.protocol.specs.Plan.{has_kind}
-use Rattle.protocol.specs.Asking.{known, state_at, question_of, known_at, unknown_at, chosen, Verdict, settled, clashed, spent, named, Judgement, share, naming, judge_known, judge_answer, judged}
+use Rattle.protocol.specs.Asking.{state_at, question_of, known_at, unknown_at, chosen, Verdict, settled, clashed, spent, named, Judgement, share, judge_known, judge_answer, judged}
 use Rattle.protocol.specs.Turning.{marked}
-use Rattle.protocol.specs.Reading.{verdict_map, is_naming}
+use Rattle.protocol.specs.Reading.{is_naming}
 use Rattle.protocol.specs.Guarantee.{Block}
-use Rattle.protocol.proofs.Ranks.{least_sure, tally_split, tally_cong, tally-bound, tally-none}
+use Rattle.protocol.proofs.Ranks.{least_sure, tally_split, tally_cong, tally-none}
 
 -- what is disclosed, and how many positions that is
 pub record Point : Type 0 where

@@ -1,29 +1,27 @@
 -- The frames that the course of a block gives each end, and that an end which follows it writes.
-use Rattle.std.proofs.Common.{◌≡◌, ℕ, zero, suc, ◌+◌, ◌-◌, ◌%◌, ◌^◌, ◌<◌, ◌≤◌, min, Bool, true, false, cond, not, ◌&&◌, ◌||◌, eqb, ltb, ◌⊎◌, List, [], ◌∷◌, ◌++◌, map, length, get_or, Ok, Err, sum, Result, sym, refl, ap, ◌∙◌, subst, inl, inr, ⊎_elim, arith}
+use Rattle.std.proofs.Common.{◌≡◌, ℕ, zero, suc, ◌+◌, ◌-◌, ◌^◌, ◌<◌, ◌≤◌, Bool, true, false, cond, List, [], ◌∷◌, ◌++◌, map, length, get_or, Ok, sym, refl, ap, ◌∙◌, subst, ⊎_elim, arith}
 use Rattle.std.specs.List.{range_with_len}
-use Rattle.std.proofs.lemmas.List.{length-append, get_or_append_left, get_or-append_right, get_or_push, append-nil, get_or_past, length_push}
-use Rattle.std.proofs.lemmas.Bool.{cases_lt, cases_eq, cases_Bool, eqb-true, both_ways}
-use Rattle.codes.specs.Code.{Code, checks}
+use Rattle.std.proofs.lemmas.List.{length-append, get_or_append_left, get_or_push, append-nil, get_or_past, length_push}
+use Rattle.std.proofs.lemmas.Bool.{cases_lt, cases_eq}
+use Rattle.codes.specs.Code.{checks}
 use Rattle.codes.specs.Admission.{Admissible}
-use Rattle.codes.specs.Syndrome.{IsKey, syndrome}
+use Rattle.codes.specs.Syndrome.{syndrome}
 use Rattle.codes.proofs.Parities.{syndrome-length}
 use Rattle.decoders.specs.Decoding.{Rule}
 use Rattle.runs.specs.Bits.{bit_of, IsBits}
-use Rattle.frames.specs.Shape.{FrameShape, WellFormed, syndrome_frame, disclosure_frame}
+use Rattle.frames.specs.Shape.{FrameShape, WellFormed, syndrome_frame}
 use Rattle.frames.specs.Format.{frame_bytes}
 use Rattle.frames.specs.Reading.{read_shape}
 use Rattle.frames.specs.Writing.{map_of, gathered, in_round, disclosure_of}
-use Rattle.frames.specs.declared.refusal.Refusal.{Refusal}
 use Rattle.frames.proofs.Gathered.{length-map_of, map_of-bits}
 use Rattle.frames.proofs.RoundTrip.{read_back}
 use Rattle.protocol.specs.Counting.{tally}
 use Rattle.protocol.specs.State.{State, frame_of}
 use Rattle.protocol.specs.Reading.{is_naming}
 use Rattle.protocol.specs.Guarantee.{Block}
-use Rattle.protocol.proofs.Opening.{FitKey, fit_plan, syndrome-bit}
-use Rattle.protocol.proofs.Words.{gathered_cong}
+use Rattle.protocol.proofs.Opening.{syndrome-bit}
 use Rattle.protocol.proofs.Ranks.{tally-bound}
-use Rattle.protocol.proofs.Course.{Point, course, verdict_at, course-length, count_is, is_out, round-count, round-stays, sum-map_of, map_of_one}
+use Rattle.protocol.proofs.Course.{course, verdict_at, course-length, count_is, is_out, round-count, round-stays, sum-map_of}
 use Rattle.protocol.proofs.Follow.{Seat, Follows}
 
 abbrev pub course_frame : Rule → Block → Seat → ℕ → FrameShape

@@ -1,26 +1,22 @@
 -- An open end of a block follows the block's course.
-use Rattle.std.proofs.Common.{◌≡◌, ℕ, zero, suc, ◌+◌, ◌-◌, ◌%◌, ◌^◌, ◌<◌, ◌≤◌, Bool, true, false, cond, not, ◌&&◌, ◌||◌, eqb, ltb, ◌⊎◌, List, [], ◌∷◌, ◌++◌, map, length, get_or, replicate, sum, sym, refl, ap, ◌∙◌, subst, inl, inr, ⊎_elim, add-one, arith}
+use Rattle.std.proofs.Common.{◌≡◌, ℕ, ◌+◌, ◌%◌, ◌<◌, ◌≤◌, Bool, true, false, eqb, ◌⊎◌, List, length, get_or, refl, ap, ◌∙◌, inl, inr, ⊎_elim, arith}
 use Rattle.std.specs.List.{range_with_len}
-use Rattle.std.proofs.lemmas.List.{length-replicate, get_or_past}
-use Rattle.std.proofs.lemmas.List.FromFn.{length-map-range_with_len, get_or-map-range_with_len}
-use Rattle.std.proofs.lemmas.Bool.{cases_lt, cases_eq, cases_Bool, eqb-true, eqb-false, ltb-true, eq-eqb, ne_eqb, and_parts, both_ways}
+use Rattle.std.proofs.lemmas.Bool.{cases_lt, eqb-false}
 use Rattle.codes.specs.Code.{Code, checks}
 use Rattle.codes.specs.Syndrome.{syndrome}
-use Rattle.decoders.specs.Question.{Question}
 use Rattle.decoders.specs.Decoding.{Rule}
-use Rattle.decoders.specs.declared.state.State.{State as Knowledge}
 use Rattle.ledger.specs.declared.line.Outcome.{Outcome}
 use Rattle.ledger.specs.declared.line.Outcome.TheVariants.{Open, Settled, Spent, Clashed}
 use Rattle.protocol.specs.Counting.{list_of}
-use Rattle.protocol.specs.Plan.{Plan, with_side, has_kind, plan_fits}
-use Rattle.protocol.specs.State.{State, begun, terms_of, is_open}
-use Rattle.protocol.specs.Asking.{known, state_at, question_of, Verdict, settled, clashed, spent, named, Judgement, judged}
-use Rattle.protocol.specs.Turning.{question_now, judged_now, after, concluded, disclosing}
-use Rattle.protocol.specs.Reading.{verdict_map, is_naming}
+use Rattle.protocol.specs.Plan.{with_side, plan_fits}
+use Rattle.protocol.specs.State.{State, terms_of, is_open}
+use Rattle.protocol.specs.Asking.{state_at, question_of, Verdict, settled, clashed, spent}
+use Rattle.protocol.specs.Turning.{question_now, judged_now}
+use Rattle.protocol.specs.Reading.{is_naming}
 use Rattle.protocol.specs.Guarantee.{Block}
 use Rattle.protocol.proofs.Words.{map_cong}
 use Rattle.protocol.proofs.Opening.{FitKey}
-use Rattle.protocol.proofs.Course.{Point, course, question_at, judged_at, verdict_at, course_next, course-length, course-bound, zero_at, marked_at, marked-length}
+use Rattle.protocol.proofs.Course.{course, question_at, judged_at, verdict_at, course-bound}
 
 -- one end of a block: its side, its key, and the other's
 pub record Seat : Type 0 where

@@ -1,8 +1,8 @@
 -- Hiding, over every run: the ends of a block with a companion word added make the same run.
-use Rattle.std.proofs.Common.{◌≡◌, ℕ, zero, suc, ◌+◌, ◌-◌, ◌%◌, ◌<◌, ◌≤◌, Bool, true, false, cond, not, ◌&&◌, ◌||◌, eqb, ltb, ◌⊎◌, List, [], ◌∷◌, ◌++◌, map, length, get_or, take, drop, replicate, Some, None, Ok, Err, Option, Result, sym, refl, ap, ◌∙◌, subst, inl, inr, ⊎_elim, arith}
+use Rattle.std.proofs.Common.{◌≡◌, ℕ, ◌+◌, Bool, true, false, cond, not, ◌&&◌, eqb, ltb, List, [], ◌∷◌, map, length, get_or, replicate, Some, None, Ok, Err, Option, Result, sym, refl, ap, ◌∙◌, subst, ⊎_elim, arith}
 use Rattle.std.proofs.lemmas.List.{length-replicate, get_or-replicate, get_or_past}
 use Rattle.std.proofs.lemmas.List.FromFn.{length-map-range_with_len, get_or-map-range_with_len}
-use Rattle.std.proofs.lemmas.Bool.{and_from, cases_Bool, cases_lt, cases_eq, or_cases, or_left, or_right, eqb-true, eqb-false, eq-eqb, both_ways}
+use Rattle.std.proofs.lemmas.Bool.{and_from, cases_lt, or_cases, or_left, or_right, eqb-true, eq-eqb, both_ways}
 use Rattle.codes.specs.Code.{Code, checks}
 use Rattle.codes.specs.Syndrome.{IsKey, syndrome, added}
 use Rattle.decoders.specs.Decoding.{Rule, Room}
@@ -12,19 +12,19 @@ use Rattle.frames.specs.Reading.{read_shape}
 use Rattle.frames.specs.Writing.{gathered, in_round, laid, map_of}
 use Rattle.frames.specs.declared.refusal.Refusal.{Refusal}
 use Rattle.protocol.specs.Counting.{same, list_of}
-use Rattle.protocol.specs.Plan.{Plan, has_kind, with_side, plan_fits, wrong_key}
+use Rattle.protocol.specs.Plan.{Plan, has_kind, plan_fits, wrong_key}
 use Rattle.protocol.specs.State.{State, Held, idle, opened, begun, frame_of, agreed_bit, raw_bits, is_open, is_settled}
-use Rattle.protocol.specs.Asking.{Verdict, settled, clashed, spent, named, Judgement}
+use Rattle.protocol.specs.Asking.{Verdict, settled, clashed, spent, named}
 use Rattle.protocol.specs.Calls.{Call, Done, Reply, open_call, say_call, hear_call, turn_call, key_call, close_call, refused, no_memory, begins, says, hears, turns, writes, closes}
-use Rattle.protocol.specs.Hearing.{hear_done, hear_read, hear_shape, heard_syndrome, heard_values, awaits, foreign, stays}
+use Rattle.protocol.specs.Hearing.{hear_done, hear_read, heard_syndrome, heard_values, awaits, foreign, stays}
 use Rattle.protocol.specs.Turning.{turn_done, taken, after, concluded, disclosing, judged_now, is_matrix, roomy, marked}
-use Rattle.protocol.specs.Steps.{step_of, open_done, open_key, say_done, key_done, still_open}
+use Rattle.protocol.specs.Steps.{step_of, open_done, say_done, key_done, still_open}
 use Rattle.protocol.specs.Runs.{Ask, Event, held_after, log_of}
-use Rattle.protocol.specs.Reading.{Among, here, there, event, named_map, verdict_map, names, is_naming, names_at, discloses, is_begin}
-use Rattle.protocol.specs.Guarantee.{Block, OpensAs, Premises, is_public, Companion, of_block, shift_key, shift_call, shift_ask, shift_reply, shift_event, add_front, Hiding}
+use Rattle.protocol.specs.Reading.{Among, here, there, event, named_map, verdict_map, names, names_at, discloses, is_begin}
+use Rattle.protocol.specs.Guarantee.{Block, Premises, is_public, Companion, of_block, shift_key, shift_call, shift_ask, shift_reply, shift_event, Hiding}
 use Rattle.protocol.specs.declared.terms.Hearing.TheVariants.{Fresh, Repeat}
-use Rattle.protocol.proofs.Shift.{shift_state, shift_done, Veiled, say_shift, hear_shift, turn_shift, key_shift}
-use Rattle.protocol.proofs.Opening.{FitKey, fit_key, key_fits, open_parts, open_begins, begun_shift, shifted_fits, fit_plan}
+use Rattle.protocol.proofs.Shift.{shift_state, Veiled, say_shift, hear_shift, turn_shift, key_shift}
+use Rattle.protocol.proofs.Opening.{FitKey, fit_key, key_fits, open_begins, begun_shift, shifted_fits, fit_plan}
 
 abbrev shift_held : List ℕ → Held → Held
 shift_held word idle = idle

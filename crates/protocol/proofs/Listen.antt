@@ -1,7 +1,7 @@
 -- Hearing a frame of the course leaves an end on the course, and hearing anything else changes nothing.
-use Rattle.std.proofs.Common.{◌≡◌, ℕ, zero, suc, ◌+◌, ◌-◌, ◌%◌, ◌^◌, ◌<◌, ◌≤◌, Bool, true, false, cond, not, ◌&&◌, ◌||◌, eqb, ltb, ◌⊎◌, List, [], ◌∷◌, ◌++◌, map, length, get_or, Ok, Err, Result, sym, refl, ap, ◌∙◌, subst, inl, inr, ⊎_elim, arith}
-use Rattle.std.proofs.lemmas.Bool.{cases_lt, cases_eq, cases_Bool, eqb-true, and_parts, both_ways, not-true}
-use Rattle.codes.specs.Code.{Code, checks}
+use Rattle.std.proofs.Common.{◌≡◌, ℕ, zero, suc, Bool, true, false, cond, not, eqb, ltb, ◌⊎◌, List, length, get_or, Ok, Err, Result, sym, refl, ap, ◌∙◌, subst, inl, inr, ⊎_elim, arith}
+use Rattle.std.proofs.lemmas.Bool.{cases_Bool, eqb-true, and_parts, both_ways, not-true}
+use Rattle.codes.specs.Code.{checks}
 use Rattle.codes.specs.Syndrome.{syndrome}
 use Rattle.decoders.specs.Decoding.{Rule}
 use Rattle.runs.specs.Bits.{bit_of}
@@ -12,15 +12,14 @@ use Rattle.frames.specs.Writing.{map_of, gathered, in_round}
 use Rattle.frames.specs.declared.refusal.Refusal.{Refusal}
 use Rattle.protocol.specs.Counting.{same}
 use Rattle.protocol.specs.State.{State, is_open}
-use Rattle.protocol.specs.Calls.{Done, Reply, refused, hears}
+use Rattle.protocol.specs.Calls.{Done, refused, hears}
 use Rattle.protocol.specs.Hearing.{hear_done, hear_read, hear_shape, heard_syndrome, heard_values, awaits, foreign, stays}
-use Rattle.protocol.specs.Reading.{is_naming}
 use Rattle.protocol.specs.Guarantee.{Block}
 use Rattle.protocol.specs.declared.terms.Hearing.{Hearing}
 use Rattle.protocol.specs.declared.terms.Hearing.TheVariants.{Fresh, Repeat}
 use Rattle.protocol.proofs.Hiding.{Silent}
 use Rattle.protocol.proofs.Opening.{FitKey}
-use Rattle.protocol.proofs.Course.{course, verdict_at}
+use Rattle.protocol.proofs.Course.{course}
 use Rattle.protocol.proofs.CourseFrames.{course_frame}
 use Rattle.protocol.proofs.Follow.{Seat, Heard, Follows}
 use Rattle.protocol.proofs.Preserve.{syndrome-follows, values_follows}

@@ -1,15 +1,13 @@
 -- What an accepted open says of its plan and key, and that a companion word keeps it accepted.
-use Rattle.std.proofs.Common.{◌≡◌, ℕ, zero, suc, ◌+◌, ◌-◌, ◌%◌, ◌<◌, ◌≤◌, max, Bool, true, false, cond, not, ◌&&◌, ◌||◌, eqb, ltb, leb, ◌⊎◌, List, [], ◌∷◌, length, get_or, replicate, Some, None, Option, sym, refl, ap, ◌∙◌, inl, inr, ⊎_elim, arith}
-use Rattle.std.proofs.lemmas.Bool.{cases_order, cases_Bool, and_parts, and_from, or_cases, or_left, or_right, not-true, not_from_false, ltb-true, leb-true, eqb-true, lt-ltb, eq-eqb}
-use Rattle.codes.specs.Places.{AllBelow}
-use Rattle.codes.specs.Code.{Code, check, checks}
-use Rattle.codes.specs.Syndrome.{IsKey, syndrome, added, parity}
+use Rattle.std.proofs.Common.{◌≡◌, ℕ, ◌-◌, ◌<◌, ◌≤◌, max, Bool, true, false, cond, not, ◌&&◌, eqb, ltb, leb, List, length, get_or, replicate, Some, None, Option, refl, ap, ◌∙◌, ⊎_elim, arith}
+use Rattle.std.proofs.lemmas.Bool.{cases_order, cases_Bool, and_parts, and_from, or_cases, or_left, or_right, not_from_false, ltb-true, leb-true, eqb-true, lt-ltb, eq-eqb}
+use Rattle.codes.specs.Code.{Code, checks}
+use Rattle.codes.specs.Syndrome.{IsKey, syndrome, added}
 use Rattle.codes.proofs.Parities.{syndrome-added, syndrome-length, syndrome_at}
-use Rattle.frames.specs.Reading.{first_wrong}
 use Rattle.frames.proofs.Firsts.{none_wrong, all_right}
 use Rattle.protocol.specs.Plan.{Plan, has_kind, count_kind, plan_fits, key_place, wrong_key}
-use Rattle.protocol.specs.State.{State, Held, idle, opened, begun}
-use Rattle.protocol.specs.Calls.{Done, Reply, refused, no_memory, begins}
+use Rattle.protocol.specs.State.{idle, opened, begun}
+use Rattle.protocol.specs.Calls.{refused, begins}
 use Rattle.protocol.specs.Steps.{open_done, open_key}
 use Rattle.protocol.proofs.Words.{added-zeros, added-bit, added-within, length-added}
 use Rattle.protocol.proofs.Shift.{shift_state}

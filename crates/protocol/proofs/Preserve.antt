@@ -1,20 +1,19 @@
 -- Each call of an end that follows the course leaves it following.
-use Rattle.std.proofs.Common.{◌≡◌, ℕ, zero, suc, ◌+◌, ◌-◌, ◌%◌, ◌^◌, ◌<◌, ◌≤◌, Bool, true, false, cond, not, ◌&&◌, ◌||◌, eqb, ltb, ◌⊎◌, List, [], ◌∷◌, ◌++◌, map, length, get_or, replicate, sum, sym, refl, ap, ◌∙◌, subst, inl, inr, ⊎_elim, add-one, arith}
+use Rattle.std.proofs.Common.{◌≡◌, ℕ, suc, ◌+◌, ◌<◌, ◌≤◌, Bool, true, false, cond, eqb, List, length, get_or, sum, sym, refl, ap, ◌∙◌, inl, ⊎_elim, arith}
 use Rattle.std.proofs.lemmas.List.{length-replicate, get_or_past}
 use Rattle.std.proofs.lemmas.List.FromFn.{length-map-range_with_len, get_or-map-range_with_len}
-use Rattle.std.proofs.lemmas.Bool.{cases_lt, cases_eq, cases_Bool, eqb-true, eqb-false, ltb-true, eq-eqb, ne_eqb, and_parts, both_ways, not-true}
-use Rattle.codes.specs.Code.{Code, checks}
+use Rattle.std.proofs.lemmas.Bool.{cases_lt, cases_eq, eqb-false, both_ways}
 use Rattle.codes.specs.Syndrome.{syndrome}
 use Rattle.decoders.specs.Decoding.{Rule}
 use Rattle.ledger.specs.declared.line.Outcome.{Outcome}
-use Rattle.ledger.specs.declared.line.Outcome.TheVariants.{Open, Settled, Spent, Clashed}
+use Rattle.ledger.specs.declared.line.Outcome.TheVariants.{Settled, Spent, Clashed}
 use Rattle.runs.specs.Bits.{bit_of}
 use Rattle.frames.specs.Writing.{gathered, in_round}
 use Rattle.protocol.specs.Counting.{list_of, tally}
-use Rattle.protocol.specs.Plan.{Plan, with_side, plan_fits}
+use Rattle.protocol.specs.Plan.{with_side, plan_fits}
 use Rattle.protocol.specs.State.{State, begun, is_open}
-use Rattle.protocol.specs.Asking.{Verdict, settled, clashed, spent, named, Judgement, judged}
-use Rattle.protocol.specs.Turning.{judged_now, after, concluded, disclosing, marked}
+use Rattle.protocol.specs.Asking.{Verdict, settled, clashed, spent, named}
+use Rattle.protocol.specs.Turning.{after, concluded, disclosing, marked}
 use Rattle.protocol.specs.Hearing.{heard_syndrome, heard_values, spread}
 use Rattle.protocol.specs.Reading.{is_naming}
 use Rattle.protocol.specs.Guarantee.{Block}

@@ -1,36 +1,32 @@
 -- The guarantee.
-use Rattle.std.proofs.Common.{◌≡◌, ℕ, zero, suc, ◌+◌, ◌-◌, ◌%◌, ◌^◌, ◌<◌, ◌≤◌, max, Bool, true, false, cond, not, ◌&&◌, ◌||◌, eqb, ltb, ◌⊎◌, List, [], ◌∷◌, ◌++◌, map, length, get_or, take, drop, Some, None, Ok, Err, Option, Result, sym, refl, ap, ◌∙◌, subst, inl, inr, ⊎_elim, arith}
+use Rattle.std.proofs.Common.{◌≡◌, ℕ, zero, suc, ◌+◌, ◌-◌, ◌%◌, ◌<◌, ◌≤◌, max, true, false, not, ◌&&◌, eqb, List, [], ◌∷◌, length, get_or, take, Some, None, Ok, Option, sym, refl, ap, ◌∙◌, subst, inl, inr, ⊎_elim, arith}
 use Rattle.std.proofs.lemmas.List.{take_at}
-use Rattle.std.proofs.lemmas.Bool.{cases_lt, cases_eq, cases_Bool, eqb-true, eqb-false, eq-eqb, ne_eqb, and_parts, and_from, and_left, or_cases, or_left, or_right, both_ways, not_from_false}
-use Rattle.codes.specs.Code.{Code, checks}
-use Rattle.codes.specs.Admission.{Admissible}
-use Rattle.codes.specs.Syndrome.{IsKey, syndrome, added}
-use Rattle.decoders.specs.Decoding.{Rule, Room, Formed}
+use Rattle.std.proofs.lemmas.Bool.{cases_lt, cases_eq, cases_Bool, eqb-true, eq-eqb, ne_eqb, and_parts, and_from, or_cases, or_left, or_right, both_ways, not_from_false}
+use Rattle.codes.specs.Code.{checks}
+use Rattle.codes.specs.Syndrome.{syndrome}
+use Rattle.decoders.specs.Decoding.{Rule, Formed}
 use Rattle.ledger.specs.declared.line.Outcome.TheVariants.{Settled}
-use Rattle.runs.specs.Bits.{bit_of}
-use Rattle.frames.specs.Shape.{FrameShape, syndrome_frame, disclosure_frame}
+use Rattle.frames.specs.Shape.{FrameShape}
 use Rattle.frames.specs.Format.{frame_bytes}
-use Rattle.frames.specs.Reading.{read_shape, outcome, frame_in, first_wrong, right_byte, frame_length, kind_in, map_in}
+use Rattle.frames.specs.Reading.{read_shape, outcome, frame_in, first_wrong, right_byte, frame_length, map_in}
 use Rattle.frames.specs.Writing.{map_of, in_round, laid}
-use Rattle.frames.specs.declared.refusal.Refusal.{Refusal}
-use Rattle.protocol.specs.Counting.{tally}
-use Rattle.protocol.specs.Plan.{Plan, with_side, has_kind, plan_fits, count_kind}
+use Rattle.protocol.specs.Plan.{with_side, has_kind, plan_fits, count_kind}
 use Rattle.protocol.specs.State.{State, Held, idle, opened, is_open, raw_bits, leak_of}
 use Rattle.protocol.specs.Asking.{Verdict, settled, clashed, spent, named}
 use Rattle.protocol.specs.Calls.{Call, Reply, open_call, say_call, hear_call, turn_call, key_call, close_call, refused, no_memory, begins, says, hears, turns, writes, closes}
-use Rattle.protocol.specs.Turning.{fronted, marked, turn_done}
+use Rattle.protocol.specs.Turning.{turn_done}
 use Rattle.protocol.specs.Hearing.{hear_done}
 use Rattle.protocol.specs.Runs.{Ask, Event, held_after, log_of}
-use Rattle.protocol.specs.Reading.{Among, here, there, event, verdict_map, is_naming, reached, disclosed_in, discloses, carries, says_map, wrote, opens, Wrote}
-use Rattle.protocol.specs.Guarantee.{Block, Premises, is_public, SettledWith, corrected, Agreement, carried, account, Account, Guarantee, Guaranteed}
+use Rattle.protocol.specs.Reading.{Among, here, there, event, verdict_map, is_naming, reached, disclosed_in, discloses, carries, says_map, wrote, Wrote}
+use Rattle.protocol.specs.Guarantee.{Block, Premises, is_public, SettledWith, corrected, Agreement, carried, account, Account, Guaranteed}
 use Rattle.protocol.proofs.Opening.{FitKey, fit_plan}
 use Rattle.protocol.proofs.Words.{added-within, gathered_cong}
 use Rattle.protocol.proofs.Ranks.{tally_cong}
 use Rattle.protocol.proofs.Course.{course, judged_at, verdict_at, course_next, course-length, course-bound, marked_at, names-new, round-stays, still_out, count_is, is_out, map_of_one, map_of-there}
 use Rattle.protocol.proofs.CourseFrames.{course_frame, course-read}
-use Rattle.protocol.proofs.Follow.{Seat, alice_seat, bob_seat, Heard, Follows, Concludes}
-use Rattle.protocol.proofs.Settled.{agreed_pattern, pattern-length, disclosed-bit, meets-syndrome}
-use Rattle.protocol.proofs.Track.{HeldOn, Stands, Facts, Track, pattern_at, agreed_at}
+use Rattle.protocol.proofs.Follow.{Seat, alice_seat, bob_seat, Concludes}
+use Rattle.protocol.proofs.Settled.{pattern-length, disclosed-bit, meets-syndrome}
+use Rattle.protocol.proofs.Track.{HeldOn, Stands, Track, agreed_at}
 use Rattle.protocol.proofs.Together.{Both, together}
 use Rattle.protocol.specs.Steps.{step_of, key_done}
 use Rattle.protocol.proofs.Hiding.{hidden, Silent, Opened, taken_up, turned_away, open_cases}

@@ -1,23 +1,21 @@
 -- What a settled round says: the pattern fits the question, so Bob's corrected key has Alice's syndrome and disclosed bits.
-use Rattle.std.proofs.Common.{◌≡◌, ℕ, zero, suc, ◌+◌, ◌-◌, ◌%◌, ◌^◌, ◌<◌, ◌≤◌, Bool, true, false, cond, not, ◌&&◌, ◌||◌, eqb, ltb, ◌⊎◌, List, [], ◌∷◌, ◌++◌, map, length, get_or, sym, refl, ap, ◌∙◌, subst, inl, inr, ⊎_elim, arith}
-use Rattle.std.specs.List.{range_with_len}
+use Rattle.std.proofs.Common.{◌≡◌, ℕ, zero, suc, ◌+◌, ◌-◌, ◌%◌, ◌<◌, ◌≤◌, Bool, true, false, cond, eqb, List, length, get_or, sym, refl, ◌∙◌, subst, ⊎_elim, arith}
 use Rattle.std.proofs.lemmas.List.{ext_get_or}
 use Rattle.std.proofs.lemmas.List.FromFn.{length-map-range_with_len, get_or-map-range_with_len}
-use Rattle.std.proofs.lemmas.Bool.{cases_lt, cases_eq, cases_Bool, eqb-true, eqb-false, ne_eqb, and_parts, both_ways}
-use Rattle.codes.specs.Code.{Code, check, checks}
+use Rattle.std.proofs.lemmas.Bool.{cases_eq, eqb-true, eqb-false, ne_eqb, and_parts}
+use Rattle.codes.specs.Code.{check, checks}
 use Rattle.codes.specs.Admission.{Admissible}
 use Rattle.codes.specs.Syndrome.{IsKey, parity, syndrome, added}
 use Rattle.codes.proofs.Parities.{syndrome_at, syndrome-length, parity-added}
-use Rattle.decoders.specs.Question.{Question, Answer, SoundQuestion, SoundAnswer}
-use Rattle.decoders.specs.Fit.{pattern_fits, all_below, check_fits, place_fits, is_known, agrees}
+use Rattle.decoders.specs.Question.{Question, SoundQuestion}
+use Rattle.decoders.specs.Fit.{pattern_fits, all_below, check_fits, place_fits, agrees}
 use Rattle.decoders.specs.Decoding.{Rule, Formed}
-use Rattle.decoders.specs.declared.state.State.TheVariants.{Raw, Punctured, Known0, Known1}
+use Rattle.decoders.specs.declared.state.State.TheVariants.{Known0, Known1}
 use Rattle.protocol.specs.Counting.{list_of}
-use Rattle.protocol.specs.Plan.{Plan, with_side, has_kind, plan_fits}
-use Rattle.protocol.specs.Asking.{known, state_at, question_of, known_at, known_pattern, Verdict, settled, clashed, spent, named, share, naming, judge_known, judge_answer, judged}
+use Rattle.protocol.specs.Plan.{with_side, has_kind, plan_fits}
+use Rattle.protocol.specs.Asking.{known, state_at, question_of, known_at, known_pattern, settled, clashed, spent, named, share, judge_known, judge_answer, judged}
 use Rattle.protocol.specs.Guarantee.{Block}
-use Rattle.protocol.proofs.Opening.{FitKey, fit_plan, syndrome-bit}
-use Rattle.protocol.proofs.Words.{added-within, length-added}
+use Rattle.protocol.proofs.Opening.{fit_plan, syndrome-bit}
 use Rattle.protocol.proofs.Course.{course, question_at, judged_at, verdict_at, question_state}
 
 all_at : (test : ℕ → Bool) (n i : ℕ) → all_below test n ≡ true → i < n → test i ≡ true

@@ -1,9 +1,9 @@
 -- An end whose key has a companion word added makes the same calls with the same replies, but for what key writes.
-use Rattle.std.proofs.Common.{◌≡◌, ℕ, zero, suc, ◌+◌, ◌-◌, ◌%◌, ◌<◌, ◌≤◌, Bool, true, false, cond, not, ◌&&◌, ◌||◌, eqb, ltb, List, [], ◌∷◌, ◌++◌, map, length, get_or, take, drop, Ok, Err, Result, sym, refl, ap, ◌∙◌, subst, ⊎_elim, arith}
+use Rattle.std.proofs.Common.{◌≡◌, ℕ, zero, suc, ◌+◌, ◌%◌, ◌<◌, ◌≤◌, Bool, true, false, cond, not, eqb, ltb, List, ◌++◌, map, length, get_or, take, drop, Ok, Err, Result, sym, refl, ap, ◌∙◌, subst, ⊎_elim, arith}
 use Rattle.std.specs.List.{range_with_len}
 use Rattle.std.proofs.lemmas.List.{get_or_past, take_at, drop_at}
 use Rattle.std.proofs.lemmas.Bool.{cases_lt, eqb-true, eqb-false}
-use Rattle.codes.specs.Code.{Code, checks}
+use Rattle.codes.specs.Code.{Code}
 use Rattle.codes.specs.Syndrome.{IsKey, added}
 use Rattle.codes.proofs.Parities.{same_mod, mod_mod}
 use Rattle.decoders.specs.Decoding.{Rule, Room}
@@ -17,7 +17,7 @@ use Rattle.protocol.specs.Counting.{same}
 use Rattle.protocol.specs.Plan.{has_kind}
 use Rattle.protocol.specs.State.{State, frame_of, agreed_bit, raw_bits, is_open, is_settled}
 use Rattle.protocol.specs.Asking.{Verdict, settled, clashed, spent, named, Judgement, state_at, question_of}
-use Rattle.protocol.specs.Calls.{Done, Reply, refused, says, hears, turns, writes}
+use Rattle.protocol.specs.Calls.{Done, refused, says, hears, writes}
 use Rattle.protocol.specs.Hearing.{hear_done, hear_read, hear_shape, heard_syndrome, heard_values, awaits, foreign, stays}
 use Rattle.protocol.specs.Turning.{turn_done, taken, after, concluded, disclosing, question_now, judged_now, is_matrix, roomy}
 use Rattle.protocol.specs.Steps.{say_done, key_done, key_written}

@@ -1,24 +1,20 @@
 -- Both ends of a block, over every run.
-use Rattle.std.proofs.Common.{◌≡◌, ℕ, zero, suc, ◌+◌, ◌-◌, ◌%◌, ◌^◌, ◌<◌, ◌≤◌, Bool, true, false, cond, not, ◌&&◌, ◌||◌, eqb, ltb, ◌⊎◌, List, [], ◌∷◌, ◌++◌, map, sym, refl, ap, ◌∙◌, subst, inl, inr, ⊎_elim, arith}
-use Rattle.std.proofs.lemmas.Bool.{cases_Bool, cases_eq, eqb-true, eqb-false, eq-eqb, ne_eqb}
-use Rattle.codes.specs.Code.{Code, checks}
-use Rattle.decoders.specs.Decoding.{Rule, Room}
+use Rattle.std.proofs.Common.{◌≡◌, ℕ, ◌<◌, true, cond, eqb, List, [], ◌∷◌, sym, refl, subst, ⊎_elim, arith}
+use Rattle.std.proofs.lemmas.Bool.{cases_eq, eq-eqb, ne_eqb}
+use Rattle.decoders.specs.Decoding.{Rule}
 use Rattle.frames.specs.Format.{frame_bytes}
-use Rattle.protocol.specs.Plan.{Plan, with_side}
-use Rattle.protocol.specs.State.{Held, idle, opened}
-use Rattle.protocol.specs.Asking.{Verdict}
-use Rattle.protocol.specs.Calls.{Call, Reply, open_call, hear_call, turn_call, begins, hears, turns}
+use Rattle.protocol.specs.State.{Held}
+use Rattle.protocol.specs.Calls.{Call, Reply, open_call, turn_call, begins, turns}
 use Rattle.protocol.specs.Steps.{step_of}
 use Rattle.protocol.specs.Runs.{Ask, Event, held_after, log_of}
-use Rattle.protocol.specs.Reading.{Among, here, there, event, is_naming, reached, opens, Wrote, Delivered}
-use Rattle.protocol.specs.Guarantee.{Block, OpensAs, TurnsWith, Premises}
-use Rattle.protocol.specs.declared.terms.Hearing.{Hearing}
+use Rattle.protocol.specs.Reading.{Among, here, there, event, is_naming, Wrote}
+use Rattle.protocol.specs.Guarantee.{Block, Premises}
 use Rattle.protocol.proofs.Opening.{FitKey}
-use Rattle.protocol.proofs.Course.{course, verdict_at}
+use Rattle.protocol.proofs.Course.{verdict_at}
 use Rattle.protocol.proofs.CourseFrames.{course_frame}
 use Rattle.protocol.proofs.Follow.{Seat, alice_seat, bob_seat, of_alice, of_bob}
 use Rattle.protocol.proofs.Track.{Track, track_none}
-use Rattle.protocol.proofs.Tracking.{track_other, track_own, Allowed, OtherFrames}
+use Rattle.protocol.proofs.Tracking.{track_other, track_own}
 
 pub record Both (rule : Rule) (block : Block) (asks : List Ask) : Type 0 where
   pub alice_on :

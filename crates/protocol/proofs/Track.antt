@@ -1,19 +1,18 @@
 -- What the list of calls and replies says of one end of a block, in terms of the block's course.
-use Rattle.std.proofs.Common.{◌≡◌, ℕ, zero, suc, ◌+◌, ◌-◌, ◌%◌, ◌^◌, ◌<◌, ◌≤◌, Bool, true, false, cond, not, ◌&&◌, ◌||◌, eqb, ltb, ◌⊎◌, List, [], ◌∷◌, ◌++◌, map, length, get_or, sym, refl, ap, ◌∙◌, subst, inl, inr, ⊎_elim, arith}
-use Rattle.std.proofs.lemmas.Bool.{cases_lt, cases_eq, cases_Bool, eqb-true, eq-eqb, ne_eqb, and_parts, and_from, and_left, and_right, or_cases, both_ways}
+use Rattle.std.proofs.Common.{◌≡◌, ℕ, ◌+◌, ◌-◌, ◌%◌, ◌<◌, ◌≤◌, true, false, cond, ◌&&◌, eqb, ◌⊎◌, List, [], ◌∷◌, get_or, sym, refl, ap, ◌∙◌, subst, inl, inr, ⊎_elim, arith}
+use Rattle.std.proofs.lemmas.Bool.{cases_eq, eqb-true, eq-eqb, ne_eqb, and_parts, and_from, or_cases, both_ways}
 use Rattle.codes.specs.Code.{Code, checks}
 use Rattle.decoders.specs.Decoding.{Rule, Room}
-use Rattle.ledger.specs.declared.line.Outcome.{Outcome}
-use Rattle.ledger.specs.declared.line.Outcome.TheVariants.{Open, Settled, Spent, Clashed}
+use Rattle.ledger.specs.declared.line.Outcome.TheVariants.{Settled}
 use Rattle.frames.specs.Format.{frame_bytes}
 use Rattle.frames.specs.Writing.{laid}
 use Rattle.protocol.specs.Plan.{count_kind, with_side, plan_fits}
 use Rattle.protocol.specs.State.{State, Held, idle, opened, is_open, raw_bits}
-use Rattle.protocol.specs.Asking.{Verdict, settled, clashed, spent, named, Judgement}
-use Rattle.protocol.specs.Calls.{Call, Reply, open_call, say_call, hear_call, turn_call, key_call, close_call, refused, no_memory, begins, says, hears, turns, writes, closes}
+use Rattle.protocol.specs.Asking.{settled, named}
+use Rattle.protocol.specs.Calls.{say_call, turn_call, key_call, close_call, says, turns, writes, closes}
 use Rattle.protocol.specs.Turning.{fronted}
 use Rattle.protocol.specs.Runs.{Event}
-use Rattle.protocol.specs.Reading.{Among, here, there, event, named_map, verdict_map, names, is_naming, names_at, reached, disclosed_in, discloses, opens, is_begin, Wrote}
+use Rattle.protocol.specs.Reading.{Among, here, there, event, verdict_map, is_naming, names_at, reached, disclosed_in, discloses, opens, Wrote}
 use Rattle.protocol.specs.Guarantee.{Block}
 use Rattle.protocol.proofs.Opening.{FitKey}
 use Rattle.protocol.proofs.Course.{course, judged_at, verdict_at}

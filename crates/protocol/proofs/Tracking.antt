@@ -1,6 +1,6 @@
 -- Every run keeps both ends of a block on the block's course.
-use Rattle.std.proofs.Common.{◌≡◌, ℕ, zero, suc, ◌+◌, ◌-◌, ◌%◌, ◌^◌, ◌<◌, ◌≤◌, Bool, true, false, cond, not, ◌&&◌, ◌||◌, eqb, ltb, ◌⊎◌, List, [], ◌∷◌, ◌++◌, map, length, get_or, Some, None, Ok, Err, Option, Result, sym, refl, ap, ◌∙◌, subst, inl, inr, ⊎_elim, arith}
-use Rattle.std.proofs.lemmas.Bool.{cases_lt, cases_eq, cases_Bool, eqb-true, eqb-false, eq-eqb, ne_eqb, ltb-false, and_parts, and_from, and_left, and_right, or_cases, both_ways, not-true, not-false}
+use Rattle.std.proofs.Common.{◌≡◌, ℕ, ◌+◌, ◌-◌, ◌^◌, ◌<◌, ◌≤◌, Bool, true, false, cond, not, eqb, ltb, List, ◌∷◌, length, sym, refl, ap, ◌∙◌, subst, inl, inr, ⊎_elim, arith}
+use Rattle.std.proofs.lemmas.Bool.{cases_lt, eq-eqb, ne_eqb, ltb-false, and_from, and_left, and_right, both_ways}
 use Rattle.codes.specs.Code.{Code, checks}
 use Rattle.codes.specs.Admission.{Admissible}
 use Rattle.decoders.specs.Decoding.{Rule, Room}
@@ -10,24 +10,24 @@ use Rattle.frames.specs.Format.{frame_bytes}
 use Rattle.frames.specs.Writing.{laid}
 use Rattle.protocol.specs.Plan.{Plan, with_side, count_kind, plan_fits, has_kind}
 use Rattle.protocol.specs.State.{State, Held, idle, opened, begun, frame_of, agreed_bit, is_open, is_settled, raw_bits, leak_of}
-use Rattle.protocol.specs.Asking.{Verdict, settled, clashed, spent, named, Judgement}
+use Rattle.protocol.specs.Asking.{Verdict, settled, clashed, spent, named}
 use Rattle.protocol.specs.Calls.{Call, Done, Reply, open_call, say_call, hear_call, turn_call, key_call, close_call, refused, no_memory, begins, says, hears, turns, writes, closes}
 use Rattle.protocol.specs.Hearing.{hear_done, stays}
 use Rattle.protocol.specs.Turning.{turn_done, taken, after, judged_now, is_matrix, roomy, fronted, concluded, disclosing}
-use Rattle.protocol.specs.Steps.{step_of, open_done, say_done, key_done, key_written, told, still_open}
-use Rattle.protocol.specs.Runs.{Ask, Event, held_after, log_of}
-use Rattle.protocol.specs.Reading.{Among, here, there, event, named_map, verdict_map, names, is_naming, names_at, reached, disclosed_in, discloses, opens, is_begin, Wrote, Delivered}
-use Rattle.protocol.specs.Guarantee.{Block, OpensAs, TurnsWith, Premises}
+use Rattle.protocol.specs.Steps.{step_of, open_done, say_done, key_done, told}
+use Rattle.protocol.specs.Runs.{Event}
+use Rattle.protocol.specs.Reading.{event, names, is_naming, names_at, reached, opens, is_begin, Wrote}
+use Rattle.protocol.specs.Guarantee.{Block}
 use Rattle.protocol.specs.declared.terms.Hearing.{Hearing}
 use Rattle.protocol.proofs.Hiding.{Silent, Opened, taken_up, turned_away, open_cases}
-use Rattle.protocol.proofs.Opening.{FitKey, FitPlan, fit_plan}
+use Rattle.protocol.proofs.Opening.{FitKey}
 use Rattle.protocol.proofs.Words.{gathered_cong}
 use Rattle.protocol.proofs.Course.{course, judged_at, verdict_at}
 use Rattle.protocol.proofs.CourseFrames.{course_frame, frame_is, course-read}
-use Rattle.protocol.proofs.Follow.{Seat, SeatOf, alice_seat, bob_seat, of_alice, of_bob, Heard, Follows, Concludes, judges_course}
+use Rattle.protocol.proofs.Follow.{Seat, SeatOf, Follows, Concludes, judges_course}
 use Rattle.protocol.proofs.Preserve.{begun-follows, after-follows}
 use Rattle.protocol.proofs.Listen.{Heeds, accepts, ignores, hear_heeds, Listened, hear-course}
-use Rattle.protocol.proofs.Track.{Ended, HeldOn, Stands, Facts, Track, track_none, grow, name_next, next_reach, pattern_at, agreed_at, wrote_later}
+use Rattle.protocol.proofs.Track.{Ended, HeldOn, Stands, Track, grow, name_next, next_reach, agreed_at, wrote_later}
 
 -- how saying, turning and writing the key end
 pub data Said (s : State) (r : ℕ) (d : Done State) : Type 0 where

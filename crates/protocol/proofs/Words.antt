@@ -1,12 +1,9 @@
 -- Adding a word to a key: where the word is 0 nothing changes, and bits that are gathered are added as the words are.
-use Rattle.std.proofs.Common.{◌≡◌, ℕ, zero, suc, ◌+◌, ◌%◌, ◌<◌, ◌≤◌, Bool, true, false, cond, List, [], ◌∷◌, ◌++◌, map, length, get_or, take, drop, replicate, sym, refl, ap, ◌∙◌, ⊎_elim, add-one, arith}
-use Rattle.std.specs.List.{range_with_len}
-use Rattle.std.proofs.lemmas.List.{length-append, ext_get_or, get_or_append_left, get_or-append_right, append-nil, length_push, get_or_push, take_at, drop_at, get_or-replicate}
-use Rattle.std.proofs.lemmas.List.FromFn.{get_or-map-range_with_len, length-map-range_with_len, fill_by_all}
+use Rattle.std.proofs.Common.{◌≡◌, ℕ, zero, suc, ◌+◌, ◌%◌, ◌<◌, Bool, true, false, cond, List, [], ◌∷◌, ◌++◌, map, length, get_or, replicate, sym, refl, ap, ◌∙◌, ⊎_elim, arith}
+use Rattle.std.proofs.lemmas.List.{length-append, ext_get_or, get_or_append_left, append-nil, length_push, get_or_push, get_or-replicate}
+use Rattle.std.proofs.lemmas.List.FromFn.{get_or-map-range_with_len, length-map-range_with_len}
 use Rattle.std.proofs.lemmas.Bool.{cases_lt}
-use Rattle.codes.specs.Code.{Code, checks}
-use Rattle.codes.specs.Syndrome.{IsKey, syndrome, added}
-use Rattle.codes.proofs.Parities.{added_at, syndrome-added, syndrome-length}
+use Rattle.codes.specs.Syndrome.{IsKey, added}
 use Rattle.frames.specs.Writing.{gathered}
 
 pub map_cong : {A B : Type 0} (f g : A → B) (xs : List A) → ((x : A) → f x ≡ g x) → map f xs ≡ map g xs

@@ -1,5 +1,5 @@
 -- What a turn asks, and what it decides of the answer.
-use Rattle.std.specs.Prelude.{ℕ, ◌+◌, ◌-◌, ◌%◌, min, Bool, true, false, cond, not, ◌&&◌, ◌||◌, List, map, ◌==◌, nat_lt, slice_index, slice_index_or}
+use Rattle.std.specs.Prelude.{ℕ, ◌+◌, ◌%◌, min, Bool, true, false, cond, not, ◌&&◌, ◌||◌, List, map, ◌==◌, nat_lt, slice_index, slice_index_or}
 use Rattle.std.specs.List.{range_with_len}
 use Rattle.codes.specs.Code.{Code, checks}
 use Rattle.decoders.specs.Question.{Question, Answer}

@@ -1,5 +1,5 @@
 -- Counting and testing by place.
-use Rattle.std.specs.Prelude.{ℕ, zero, suc, ◌+◌, Bool, true, false, cond, ◌&&◌, List, [], ◌∷◌, map, length, ◌==◌}
+use Rattle.std.specs.Prelude.{ℕ, zero, suc, ◌+◌, Bool, true, false, cond, ◌&&◌, List, [], ◌∷◌, map, ◌==◌}
 use Rattle.std.specs.List.{range_with_len}
 
 -- how many places below n pass a test

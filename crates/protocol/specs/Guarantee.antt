@@ -1,11 +1,10 @@
 -- The guarantee, over every run, of each block alone.
-use Rattle.std.specs.Prelude.{◌≡◌, ℕ, ◌+◌, ◌-◌, ◌%◌, ◌^◌, ◌<◌, ◌≤◌, Bool, true, false, cond, ◌&&◌, ◌||◌, List, [], ◌∷◌, ◌++◌, map, length, take, drop, replicate, ◌==◌, slice_index}
+use Rattle.std.specs.Prelude.{◌≡◌, ℕ, ◌+◌, ◌-◌, ◌^◌, ◌<◌, ◌≤◌, Bool, true, cond, ◌||◌, List, ◌++◌, map, length, take, drop, replicate, ◌==◌, slice_index}
 use Rattle.codes.specs.Code.{Code, checks}
 use Rattle.codes.specs.Admission.{Admissible}
 use Rattle.codes.specs.Syndrome.{IsKey, syndrome, added}
 use Rattle.decoders.specs.Decoding.{Rule, Room, Formed}
 use Rattle.frames.specs.Writing.{laid}
-use Rattle.ledger.specs.declared.line.Outcome.{Outcome}
 use Rattle.ledger.specs.declared.line.Outcome.TheVariants.{Settled}
 use Rattle.protocol.specs.Counting.{tally}
 use Rattle.protocol.specs.Plan.{Plan, with_side, has_kind, count_kind}

@@ -1,5 +1,5 @@
 -- Hearing a frame.
-use Rattle.std.specs.Prelude.{ℕ, ◌+◌, Bool, true, false, cond, not, ◌&&◌, ◌||◌, List, length, Ok, Err, Result, ◌==◌, nat_lt, slice_index}
+use Rattle.std.specs.Prelude.{ℕ, Bool, true, cond, not, ◌&&◌, ◌||◌, List, length, Ok, Err, Result, ◌==◌, nat_lt, slice_index}
 use Rattle.frames.specs.Shape.{FrameShape, syndrome_frame, disclosure_frame}
 use Rattle.frames.specs.Numbers.{place_of}
 use Rattle.frames.specs.Reading.{read_shape}

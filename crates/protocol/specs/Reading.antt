@@ -1,9 +1,8 @@
 -- What a list of calls and replies says of an end: the rounds it reached, what it disclosed, the frames it wrote.
 use Rattle.std.specs.Prelude.{◌≡◌, ℕ, ◌+◌, Bool, true, false, cond, ◌&&◌, ◌||◌, List, [], ◌∷◌, ◌==◌, slice_index}
 use Rattle.frames.specs.Reading.{kind_in, map_in}
-use Rattle.ledger.specs.declared.line.Outcome.{Outcome}
 use Rattle.protocol.specs.Asking.{Verdict, settled, clashed, spent, named}
-use Rattle.protocol.specs.Calls.{Call, Reply, open_call, say_call, hear_call, turn_call, key_call, close_call, refused, no_memory, begins, says, hears, turns, writes, closes}
+use Rattle.protocol.specs.Calls.{Call, Reply, say_call, hear_call, refused, no_memory, begins, says, hears, turns, writes, closes}
 use Rattle.protocol.specs.Runs.{Event}
 use Rattle.protocol.specs.declared.terms.Hearing.{Hearing}
 

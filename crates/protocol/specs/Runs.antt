@@ -1,8 +1,8 @@
 -- Runs: lists of calls, each of one end. The newest call stands first.
-use Rattle.std.specs.Prelude.{ℕ, Bool, cond, List, [], ◌∷◌, ◌==◌}
+use Rattle.std.specs.Prelude.{ℕ, cond, List, [], ◌∷◌, ◌==◌}
 use Rattle.decoders.specs.Decoding.{Rule}
 use Rattle.protocol.specs.State.{Held, idle}
-use Rattle.protocol.specs.Calls.{Call, Reply, Done}
+use Rattle.protocol.specs.Calls.{Call, Reply}
 use Rattle.protocol.specs.Steps.{step_of}
 
 -- a call of the end with this handle

@@ -1,5 +1,5 @@
 -- What each call does to an end.
-use Rattle.std.specs.Prelude.{ℕ, Bool, true, false, cond, not, List, length, Some, None, Option, nat_lt}
+use Rattle.std.specs.Prelude.{ℕ, Bool, cond, List, length, Some, None, Option, nat_lt}
 use Rattle.codes.specs.Code.{Code}
 use Rattle.decoders.specs.Decoding.{Rule}
 use Rattle.frames.specs.Format.{frame_bytes}

@@ -1,5 +1,5 @@
 -- A turn.
-use Rattle.std.specs.Prelude.{ℕ, ◌+◌, ◌-◌, Bool, true, false, cond, not, ◌&&◌, List, ◌++◌, length, drop, sum, ◌==◌, nat_lt, slice_index}
+use Rattle.std.specs.Prelude.{ℕ, ◌+◌, ◌-◌, Bool, false, cond, not, ◌&&◌, List, ◌++◌, length, drop, sum, ◌==◌, nat_lt, slice_index}
 use Rattle.codes.specs.Code.{Code, checks}
 use Rattle.decoders.specs.Question.{Question}
 use Rattle.decoders.specs.Decoding.{Rule, Room, room_for}
@@ -8,7 +8,7 @@ use Rattle.ledger.specs.declared.line.Outcome.TheVariants.{Open, Settled, Spent,
 use Rattle.protocol.specs.Counting.{list_of}
 use Rattle.protocol.specs.State.{State, is_open}
 use Rattle.protocol.specs.Asking.{Verdict, settled, clashed, spent, named, Judgement, judged, question_of}
-use Rattle.protocol.specs.Calls.{Done, Reply, refused, turns}
+use Rattle.protocol.specs.Calls.{Done, refused, turns}
 use Rattle.protocol.specs.Hearing.{stays}
 use Rattle.protocol.specs.declared.terms.Stage.{Stage}
 

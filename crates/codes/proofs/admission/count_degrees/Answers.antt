@@ -1,4 +1,4 @@
-use Rattle.std.proofs.Common.{◌<◌, length, get_or, arith}
+use Rattle.std.proofs.Common.{length, get_or, arith}
 use Rattle.std.proofs.lemmas.List.{take_all}
 use Rattle.codes.proofs.Degrees.{degrees_more, degree-bound}
 use Rattle.codes.proofs.admission.count_degrees.Goals as goal

@@ -1,7 +1,7 @@
-use Rattle.std.proofs.Common.{◌≡◌, ℕ, ◌+◌, ◌-◌, ◌<◌, ◌≤◌, List, length, get_or, arith, below_more}
+use Rattle.std.proofs.Common.{◌+◌, ◌<◌, ◌≤◌, length, arith, below_more}
 use Rattle.codes.specs.Places.{AllBelow}
 use Rattle.codes.specs.Code.{start, end}
-use Rattle.codes.specs.Admission.{Filled, SoundCheck, SoundEntry, Rises}
+use Rattle.codes.specs.Admission.{Filled, SoundEntry, Rises}
 use Rattle.codes.proofs.Checks.{next_check, rises_first, rises_next}
 use Rattle.codes.proofs.admission.first_wrong_entry.Goals as goal
 use Rattle.codes.proofs.admission.first_wrong_entry.Goals.{then-ends-check, else-ends-check+else-j-gt0, else-j-gt0-via-then-j-gt0+else-not-rises_at, else-j-gt0-via-else-j-gt0}

@@ -1,4 +1,4 @@
-use Rattle.std.proofs.Common.{◌<◌, ◌≤◌, arith, below_more}
+use Rattle.std.proofs.Common.{◌<◌, arith, below_more}
 use Rattle.std.proofs.lemmas.List.{get_or-replicate}
 use Rattle.codes.specs.Admission.{SoundPosition}
 use Rattle.codes.proofs.admission.first_wrong_position.Goals as goal

@@ -1,4 +1,4 @@
-use Rattle.std.proofs.Common.{sym, ◌∙◌}
+use Rattle.std.proofs.Common.{◌∙◌}
 use Rattle.std.proofs.lemmas.List.{take_all}
 use Rattle.codes.proofs.Parities.{parity_here, parity_past}
 use Rattle.codes.proofs.bits.parity.Goals as goal

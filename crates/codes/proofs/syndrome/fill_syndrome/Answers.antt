@@ -1,7 +1,7 @@
-use Rattle.std.proofs.Common.{◌≡◌, ℕ, ◌≤◌, List, length, get_or, refl, ap, ◌∙◌, add-one, arith, rules}
+use Rattle.std.proofs.Common.{◌≡◌, ℕ, length, refl, ◌∙◌, add-one, arith, rules}
 use Rattle.std.proofs.lemmas.List.FromFn.{fill_by_all}
 use Rattle.std.proofs.lemmas.List.Edits.{fill_by_more}
-use Rattle.codes.specs.Code.{start, end, check_in}
+use Rattle.codes.specs.Code.{check_in}
 use Rattle.codes.specs.Syndrome.{parity}
 use Rattle.codes.proofs.Checks.{ends-within}
 use Rattle.codes.proofs.Parities.{bytes_tell}

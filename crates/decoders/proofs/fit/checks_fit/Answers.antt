@@ -1,5 +1,4 @@
 use Rattle.std.proofs.Common.{◌≡◌, ◌<◌, map, length, sym, refl, ◌∙◌, add-one, arith}
-use Rattle.codes.specs.Code.{start}
 use Rattle.codes.proofs.Checks.{ends-within}
 use Rattle.decoders.specs.Question.{bit_of}
 use Rattle.decoders.specs.Fit.{meets}

@@ -1,4 +1,4 @@
-use Rattle.std.proofs.Common.{◌≡◌, ◌+◌, ◌-◌, ◌*◌, min, max, map, length, sym, ap, ◌∙◌, arith}
+use Rattle.std.proofs.Common.{◌≡◌, ◌+◌, ◌-◌, ◌*◌, min, map, length, sym, ap, ◌∙◌, arith}
 use Rattle.decoders.specs.Question.{Question, bit_of}
 use Rattle.flipping.specs.Flips.{unmet_in, limit_of, confidences, flipping_rule}
 use Rattle.flipping.specs.Runs.{Asks}

@@ -1,6 +1,6 @@
 use Rattle.std.proofs.Common.{◌≡◌, get_or}
 use Rattle.codes.specs.Places.{AllBelow}
-use Rattle.decoders.specs.declared.state.State.TheVariants.{Raw, Punctured, Known0, Known1}
+use Rattle.decoders.specs.declared.state.State.TheVariants.{Raw}
 use Rattle.flipping.specs.Flips.{start_bit}
 use Rattle.flipping.proofs.pattern.start_pattern.Given as goal
 

@@ -2,7 +2,7 @@ use Rattle.std.proofs.Common.{◌≡◌, ◌+◌, ◌-◌, ◌≤◌, map, lengt
 use Rattle.std.specs.List.{remove}
 use Rattle.std.proofs.lemmas.List.{length-map}
 use Rattle.codes.specs.Tells.{sign_bit}
-use Rattle.propagation.specs.Check.{negatives, answer}
+use Rattle.propagation.specs.Check.{answer}
 use Rattle.propagation.proofs.Answering.{answered_none, answered_more, answered_all, negatives-few, own_counted, others_count, size-signed, map_removed, own}
 use Rattle.propagation.proofs.check.answer_all.Goals as goal
 

@@ -1,6 +1,4 @@
 use Rattle.std.proofs.Common.{◌≡◌, map, length, sym, refl, ◌∙◌, add-one, arith, rules}
-use Rattle.codes.specs.Code.{start}
-use Rattle.codes.specs.Syndrome.{parity}
 use Rattle.codes.proofs.Checks.{ends-within}
 use Rattle.decoders.specs.Fit.{meets}
 use Rattle.decoders.specs.Question.{bit_of}

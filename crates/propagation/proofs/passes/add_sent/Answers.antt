@@ -1,4 +1,4 @@
-use Rattle.std.proofs.Common.{◌≡◌, suc, ◌+◌, ◌<◌, map, length, get_or, ℤ, pos, ◌+ℤ◌, sym, ap, ◌∙◌, ap₂, arith}
+use Rattle.std.proofs.Common.{◌≡◌, suc, ◌<◌, map, length, get_or, pos, ◌+ℤ◌, sym, ap, ◌∙◌, ap₂, arith}
 use Rattle.std.proofs.ByRecursion.{All-set, All-weaker}
 use Rattle.std.proofs.lemmas.List.{length-map, map-set}
 use Rattle.propagation.specs.Within.{Fine}

@@ -1,4 +1,4 @@
-use Rattle.std.proofs.Common.{◌-◌, neg_ℤ, refl, ap, ◌∙◌, arith}
+use Rattle.std.proofs.Common.{neg_ℤ, refl, ap, ◌∙◌, arith}
 use Rattle.check_rules.proofs.offset.OffsetRuleCheckRule.reply.Goals as goal
 
 pub turned-requires : goal.turned-requires

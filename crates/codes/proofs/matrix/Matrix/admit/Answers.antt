@@ -1,4 +1,4 @@
-use Rattle.std.proofs.Common.{◌≡◌, ℕ, ◌<◌, ◌≤◌, List, length, vec_items, vec_len, arith}
+use Rattle.std.proofs.Common.{◌≡◌, length, vec_items, vec_len, arith}
 use Rattle.codes.specs.Admission.{Admissible}
 use Rattle.codes.proofs.matrix.Matrix.admit.Goals as goal
 

@@ -1,9 +1,9 @@
-use Rattle.std.proofs.Common.{◌≡◌, get_or, take, sum_by, arith}
+use Rattle.std.proofs.Common.{arith}
 use Rattle.std.proofs.lemmas.List.{take_all}
 use Rattle.std.proofs.lemmas.List.Sums.{sum_by_more}
 use Rattle.ledger.specs.declared.line.Line.{Line}
 use Rattle.ledger.specs.declared.line.Outcome.TheVariants.{Open}
-use Rattle.ledger.specs.Lines.{settled_raw, settled_leak, totals_of}
+use Rattle.ledger.specs.Lines.{settled_raw, settled_leak}
 use Rattle.ledger.proofs.ledger.methods.sum_settled.Goals as goal
 
 pub loop-line-preserved : goal.loop-line-preserved
