@@ -47,8 +47,7 @@ fn show(frame: Frame<'_>) -> FrameReply
 }
 
 // Reads a frame of a matrix with `n` positions and `m` checks.
-#[unsafe(no_mangle)]
-pub extern "C" fn reconcile_read_frame(n: usize, m: usize, bytes: &[u8]) -> FrameReply
+pub fn reconcile_read_frame(n: usize, m: usize, bytes: &[u8]) -> FrameReply
     ensures { FrameReplies n m bytes.now result }
 {
     match read(n, m, bytes) {

@@ -47,8 +47,7 @@ fn syndrome_reply(
 }
 
 // Whether two runs are a matrix of `n` positions and `m` checks.
-#[unsafe(no_mangle)]
-pub extern "C" fn reconcile_admit_matrix(n: usize, m: usize, positions: &[u8], ends: &[u8]) -> Reply
+pub fn reconcile_admit_matrix(n: usize, m: usize, positions: &[u8], ends: &[u8]) -> Reply
     ensures { AdmitReplies n m positions.now ends.now result }
 {
     if !may_be_runs(positions, ends) {
@@ -64,8 +63,7 @@ pub extern "C" fn reconcile_admit_matrix(n: usize, m: usize, positions: &[u8], e
 }
 
 // Writes the syndrome of a key to the front of a buffer.
-#[unsafe(no_mangle)]
-pub extern "C" fn reconcile_syndrome(
+pub fn reconcile_syndrome(
     n: usize,
     m: usize,
     positions: &[u8],

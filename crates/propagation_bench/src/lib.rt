@@ -45,8 +45,7 @@ fn matrix_of(heap: Global, n: usize, m: usize, positions: &[u16], ends: &[u16]) 
     }
 }
 
-#[unsafe(no_mangle)]
-pub extern "C" fn propagate_by_offset(
+pub fn propagate_by_offset(
     heap: Global,
     n: usize,
     m: usize,
@@ -79,8 +78,7 @@ pub extern "C" fn propagate_by_offset(
     )
 }
 
-#[unsafe(no_mangle)]
-pub extern "C" fn propagate_by_tables<'a>(
+pub fn propagate_by_tables<'a>(
     heap: Global,
     n: usize,
     m: usize,
