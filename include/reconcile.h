@@ -5,7 +5,7 @@
  * length that follows it (it may be null where that is 0), and `out` must not overlap what is handed in beside it.
  * The stack needs about 20 KiB.
  *
- * Build the library with `rt staticlib controller` and link target/staticlib/libcontroller.a.
+ * Build the library with `tools/c_library.sh controller` and link target/staticlib/libcontroller.a.
  * docs/controller.md has the refusals and the rules behind them. */
 #ifndef RECONCILE_H
 #define RECONCILE_H

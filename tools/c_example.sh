@@ -4,7 +4,7 @@ set -euo pipefail
 cd "$(dirname "$0")/.."
 out=$(mktemp -d)
 trap 'rm -rf "$out"' EXIT
-rt staticlib controller >"$out/log" 2>&1 || { cat "$out/log"; exit 1; }
+tools/c_library.sh controller
 library=target/staticlib/libcontroller.a
 warnings="-std=c11 -Wall -Wextra -Werror -Iinclude"
 gcc $warnings -O2 examples/c/controller.c "$library" -o "$out/controller"

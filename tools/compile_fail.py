@@ -14,12 +14,13 @@ CRATE = pathlib.Path(__file__).resolve().parent.parent / "crates/ledger"
 def errors_of(case):
     """The named errors of the crate with the case appended, and its status."""
     with tempfile.TemporaryDirectory() as folder:
-        crate = pathlib.Path(folder) / "ledger"
+        crate = pathlib.Path(folder) / "crates/ledger"
         for part in ("src", "specs", "proofs"):
             shutil.copytree(CRATE / part, crate / part)
+        (pathlib.Path(folder) / "crates.txt").write_text("ledger:\n")
         source = crate / "src/lib.rt"
         source.write_text(source.read_text() + "\n" + case)
-        run = subprocess.run(["rt", "check", str(crate)], stdout=subprocess.PIPE, stderr=subprocess.STDOUT, text=True, check=False)
+        run = subprocess.run(["rt", "check"], cwd=crate, stdout=subprocess.PIPE, stderr=subprocess.STDOUT, text=True, check=False)
         return run.returncode, re.findall(r"error\[([a-z0-9-]+)\]", run.stdout)
 
 
