@@ -31,7 +31,7 @@ lent_rule f2a a2f raw =
     }
 
 -- what is kept of the magnitudes while they are gathered
-pub record SumsOf (f2a xs : List ℕ) (zeros-in sum_of : ℕ) : Type 0 where
-  pub zeros_is : zeros-in ≡ zeros xs
+pub record SumsOf (f2a xs : List ℕ) (zeros_in sum_of : ℕ) : Type 0 where
+  pub zeros_is : zeros_in ≡ zeros xs
   pub sum_is : sum_of ≡ sum_by (entry f2a) xs
   pub bound : sum_of ≤ 65535 * length xs

@@ -1,6 +1,6 @@
 #![tactic(auto)]
 
-// The functions that the link controller, a C program, calls: numbers and byte slices in, a reply of plain numbers out.
+// What the link controller, a C program, calls through controller_c: numbers and byte slices in, a reply of plain numbers out.
 mod frame;
 mod matrix;
 mod reply;

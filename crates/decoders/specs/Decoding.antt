@@ -29,6 +29,6 @@ pub record Answered (n : ℕ) (answer : Answer) (pattern pattern' confidence con
   pub confidence_front : take n confidence' ≡ answer.confidence
   pub confidence_rest : drop n confidence' ≡ drop n confidence
 
--- every sound question gets a well_formed answer
+-- every sound question gets a well-formed answer
 abbrev pub Formed : Rule → Type 0
 Formed rule = (q : Question) → SoundQuestion q → SoundAnswer q.code.width (rule q)

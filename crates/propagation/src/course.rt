@@ -30,7 +30,7 @@ fn renew<B: Belief, R: CheckRule<B>>(
     requires last { Within B.Belief.exact B.Belief.eighths (R.CheckRule.meaning rule.now).known sent.old }
     ensures kept_totals { Within B.Belief.exact B.Belief.eighths (17 * (R.CheckRule.meaning rule.now).known) totals.new }
     ensures kept_sent { Within B.Belief.exact B.Belief.eighths (R.CheckRule.meaning rule.now).known sent.new }
-    ensures value { ◌≡◌ {A = Beliefs} (record { totals = map B.Belief.eighths totals.exit.now; sent = map B.Belief.eighths sent.new }) (renewed (R.CheckRule.meaning rule.now) (asking (code_of matrix.now) difference.now states.now q) (record { totals = map B.Belief.eighths totals.entry.now; sent = map B.Belief.eighths sent.old })) }
+    ensures value { ◌≡◌ {A = Beliefs} (record { totals = map B.Belief.eighths totals.new; sent = map B.Belief.eighths sent.new }) (renewed (R.CheckRule.meaning rule.now) (asking (code_of matrix.now) difference.now states.now q) (record { totals = map B.Belief.eighths totals.old; sent = map B.Belief.eighths sent.old })) }
     ensures fit { result ≡ pattern_fits (asking (code_of matrix.now) difference.now states.now q) (pattern_of (map B.Belief.eighths totals.new)) }
 {
     let positions = matrix.positions();

@@ -1,6 +1,6 @@
 #![tactic(auto)]
 
-// What the benchmark calls from C: one question asked many times, by the offset rule or by tables.
+// What the benchmark, a C program, calls through propagation_bench_c: one question asked many times, by the offset rule or by tables.
 use check_rules::{OffsetRule, TableRule};
 use codes::Matrix;
 use decoders::{Decoder, State};

@@ -60,7 +60,7 @@ keeps rule (opened s) (turn_call c room p f w) number place e = go (turn_cases r
   where
     go : Turned rule s c p f (turn_done rule s c room p f w) → opened (turn_done rule s c room p f w).held ≡ opened s
     go (not_turned same_state quiet) = ap opened same_state
-    go (is_turned still_Open heard is) = let a = ap (λ d. d.reply) is in let z : ◌≡◌ {A = ℕ} 0 1 = cc in absurd (omega arith)
+    go (is_turned ongoing heard is) = let a = ap (λ d. d.reply) is in let z : ◌≡◌ {A = ℕ} 0 1 = cc in absurd (omega arith)
 keeps rule (opened s) (key_call b) number place e = go (key_cases s b)
   where
     go : Keyed s b (key_done s b) → opened (key_done s b).held ≡ opened s

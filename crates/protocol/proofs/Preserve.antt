@@ -137,7 +137,7 @@ module _ (rule : Rule) (block : Block) (seat : Seat) where
     pub syndrome-follows : s.stage.round ≡ 0 → is_open s.stage.outcome ≡ true
         → Follows rule block seat (heard_syndrome s (syndrome block.code seat.other))
     unfolding heard_syndrome
-    syndrome-follows zero-round still_Open =
+    syndrome-follows zero-round ongoing =
         record {
           fits = f.fits;
           key_fits = f.key_fits;
@@ -154,7 +154,7 @@ module _ (rule : Rule) (block : Block) (seat : Seat) where
               λ i ne h.
               let bound : get_or s.rounds i 0 ≤ s.stage.round = rw f.rounds (course-bound rule block s.stage.round i) in
               absurd (ne (omega (arith, bound, zero-round)));
-          ended = λ e. absurd (both_ways (is_open s.stage.outcome) e still_Open);
+          ended = λ e. absurd (both_ways (is_open s.stage.outcome) e ongoing);
         }
 
     -- or its bits at the positions of the round
@@ -164,7 +164,7 @@ module _ (rule : Rule) (block : Block) (seat : Seat) where
         (heard_values s s.stage.round
         (gathered (in_round s.stage.round s.rounds) (λ i. bit_of (get_or seat.other i 0)) (length s.rounds)))
     unfolding heard_values spread list_of
-    values_follows other still_Open later =
+    values_follows other ongoing later =
         record {
           fits = f.fits;
           key_fits = f.key_fits;
@@ -178,7 +178,7 @@ module _ (rule : Rule) (block : Block) (seat : Seat) where
           their_syndrome = λ h. f.their_syndrome (inl (omega (arith, later)));
           their_length = length-map-range_with_len _ 0 (length s.their_bits) ∙ f.their_length;
           their_bits = bits;
-          ended = λ e. absurd (both_ways (is_open s.stage.outcome) e still_Open);
+          ended = λ e. absurd (both_ways (is_open s.stage.outcome) e ongoing);
         }
       where
         bits : (i : ℕ) → (get_or s.rounds i 0 ≡ 0 → ⊥)

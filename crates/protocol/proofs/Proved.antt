@@ -199,7 +199,7 @@ says-call rule (opened s) (turn_call c room p f w) bytes buffer e = go (turn_cas
   where
     go : Turned rule s c p f (turn_done rule s c room p f w) → (r : ℕ) × (b : List ℕ) × (turn_call c room p f w ≡ say_call r b)
     go (not_turned same_state quiet) = absurd (subst Silent e quiet)
-    go (is_turned still_Open heard is) = let a = ap (λ d. d.reply) is in let z : ◌≡◌ {A = ℕ} 0 1 = cc in absurd (omega arith)
+    go (is_turned ongoing heard is) = let a = ap (λ d. d.reply) is in let z : ◌≡◌ {A = ℕ} 0 1 = cc in absurd (omega arith)
 says-call rule (opened s) (key_call b) bytes buffer e = go (key_cases s b)
   where
     go : Keyed s b (key_done s b) → (r : ℕ) × (b' : List ℕ) × (key_call b ≡ say_call r b')

@@ -148,7 +148,7 @@ module _ (rule : Rule) (block : Block) (h o : ℕ) (seat other : Seat) where
 
   -- a turn that names: the end goes on to the next round
   module _ (s : State) (y : Held) (log : List Event) (t : Track (opened s) log) (c : Code) (room : Room) (p f : List ℕ) (w : ℕ) (m p' f' : List ℕ)
-      (still_Open : is_open s.stage.outcome ≡ true) (names-now : verdict_at rule block (reached h log) ≡ named m) where
+      (ongoing : is_open s.stage.outcome ≡ true) (names-now : verdict_at rule block (reached h log) ≡ named m) where
     abbrev turned : Event
     turned = event h (turn_call c room p f w) (turns (named m) p' f')
 
@@ -159,7 +159,7 @@ module _ (rule : Rule) (block : Block) (h o : ℕ) (seat other : Seat) where
     next_reach = rw own refl
 
     not_yet : {A : Type 0} → Ended (opened s) (opens h log) → A
-    not_yet e = absurd (both_ways (is_open s.stage.outcome) e still_Open)
+    not_yet e = absurd (both_ways (is_open s.stage.outcome) e ongoing)
 
     pub name_next : HeldOn y (turned ∷ log) → Track y (turned ∷ log)
     name_next held =

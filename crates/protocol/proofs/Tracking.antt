@@ -283,7 +283,7 @@ module _ (rule : Rule) (block : Block) (h o : ℕ) (seat other : Seat) where
             }))
 
     module _ (s : State) (c : Code) (room : Room) (p f : List ℕ) (w : ℕ) (log : List Event) (t : T (opened s) log)
-        (still_Open : is_open s.stage.outcome ≡ true) (heard : s.stage.heard ≡ true) where
+        (ongoing : is_open s.stage.outcome ≡ true) (heard : s.stage.heard ≡ true) where
       abbrev present : List ℕ
       present = (judged_at rule block (course rule block s.stage.round)).pattern
 
@@ -298,7 +298,7 @@ module _ (rule : Rule) (block : Block) (h o : ℕ) (seat other : Seat) where
           let same-opens : opens h (ev ∷ log) ≡ opens h log = rw (and_right (eqb h h) false refl) (omega arith) in
           let st = stands_later s ev log quiet same-opens t.held in
           grow rule block h o seat other (opened s) (opened (concluded s outcome present)) ev log t quiet
-          (λ z. absurd (both_ways (is_open s.stage.outcome) z still_Open))
+          (λ z. absurd (both_ways (is_open s.stage.outcome) z ongoing))
           (record { follows = follows; round = st.round; once = st.once; got = st.got })
           (λ bytes r b b' is. let reply = ap (λ x. x.reply) is in let z : ◌≡◌ {A = ℕ} 0 1 = cc in absurd (omega arith))
           (λ c₁ room₁ p₁ f₁ w₁ p' f₂ is.
@@ -326,9 +326,9 @@ module _ (rule : Rule) (block : Block) (h o : ℕ) (seat other : Seat) where
       disclose m f' e follows =
           let now-named : verdict_at rule block (reached h log) ≡ named m = ap (verdict_at rule block) (sym t.held.round) ∙ e in
           let ev = event h (turn_call c room p f w) (turns (named m) (fronted present p) f') in
-          let reach = next_reach rule block h o seat other s (opened (disclosing s m present)) log t c room p f w m (fronted present p) f' still_Open now-named in
+          let reach = next_reach rule block h o seat other s (opened (disclosing s m present)) log t c room p f w m (fronted present p) f' ongoing now-named in
           let same-opens : opens h (ev ∷ log) ≡ opens h log = rw (and_right (eqb h h) false refl) (omega arith) in
-          name_next rule block h o seat other s (opened (disclosing s m present)) log t c room p f w m (fronted present p) f' still_Open now-named
+          name_next rule block h o seat other s (opened (disclosing s m present)) log t c room p f w m (fronted present p) f' ongoing now-named
           (record {
             follows = follows;
             round = ap (λ k. k + 1) t.held.round ∙ sym reach;
@@ -358,11 +358,11 @@ module _ (rule : Rule) (block : Block) (h o : ℕ) (seat other : Seat) where
         go : Turned rule s c p f (turn_done rule s c room p f w)
             → T (opened (turn_done rule s c room p f w).held) (event h (turn_call c room p f w) (turn_done rule s c room p f w).reply ∷ log)
         go (not_turned same_state quiet) = rw same_state (open_silent s (turn_call c room p f w) (turn_done rule s c room p f w).reply log quiet t)
-        go (is_turned still_Open heard is) =
+        go (is_turned ongoing heard is) =
             let same_code = allowed.turns_with c room p f w _ _ _ refl (ap (λ d. d.reply) is) in
             let judged-is : judged_now rule s c ≡ judged_at rule block (course rule block s.stage.round) =
             ap (judged_now rule s) same_code ∙ judges_course rule block seat of s t.held.follows heard in
-            rw (is, judged-is) (decided s c room p f w log t still_Open heard (verdict_at rule block s.stage.round) _ refl)
+            rw (is, judged-is) (decided s c room p f w log t ongoing heard (verdict_at rule block s.stage.round) _ refl)
 
     -- a settled end that writes its key
     open_keys : (s : State) (b : List ℕ) (log : List Event) → T (opened s) log

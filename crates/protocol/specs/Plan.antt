@@ -1,5 +1,5 @@
 -- The plan of a block, and when it and a key may open an end.
-use Rattle.std.specs.Prelude.{ℕ, ◌-◌, max, Bool, not, ◌&&◌, ◌||◌, ltb, List, length, Option, ◌==◌, nat_le, nat_lt, slice_index}
+use Rattle.std.specs.Prelude.{ℕ, ◌-◌, max, Bool, not, ◌&&◌, ◌||◌, List, length, Option, ◌==◌, nat_le, nat_lt, slice_index}
 use Rattle.codes.specs.Code.{Code, checks}
 use Rattle.decoders.specs.Fit.{all_below}
 use Rattle.frames.specs.Reading.{first_wrong}
@@ -38,7 +38,7 @@ count_kind kind kinds = tally (has_kind kind kinds) (length kinds)
 unfoldable pub plan_fits : Plan → Code → Bool
 plan_fits p code =
     (p.matrix == code.number)
-    && (length p.kinds == code.width && all_below (λ i. ltb (slice_index p.kinds i) 3) (length p.kinds))
+    && (length p.kinds == code.width && all_below (λ i. nat_lt (slice_index p.kinds i) 3) (length p.kinds))
     && (nat_le 1 (count_kind 0 p.kinds) && nat_le (count_kind 1 p.kinds) (checks code))
     && (nat_le 1 p.step && nat_le p.step code.width)
     && nat_le p.cap (code.width - count_kind 2 p.kinds)
