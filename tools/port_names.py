@@ -152,7 +152,7 @@ for p, s in text.items():
     lines = []
     for line in s.split('\n'):
         def one(m):
-            declared = m.end() == m.start() + len(m[0]) and line[m.end():m.end() + 3] == ' = ' and not line[:m.start()].strip()
+            declared = line.startswith(' = ', m.end()) and not line[:m.start()].strip()
             return m[0] if m[0] in brought and not declared else of_source(m[0])
         lines.append(line if line.lstrip().startswith('--') else re.sub(r"[A-Za-z_][\w'₀-₉]*(?:-[\w'₀-₉]+)+", one, line))
     text[p] = '\n'.join(lines)

@@ -56,6 +56,7 @@ pub trait Belief: Copy + TellsBit {
         requires small { Small (eighths self) }
         ensures { result ≡ nat_abs (eighths self) };
 
+    // Each impl has to prove it: a ghost member is a law below the last function, and data above it.
     ghost tells: { (x : Self) → exact x → Self.TellsBit.told x ≡ sign_bit (eighths x) };
 }
 
