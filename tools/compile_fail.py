@@ -8,16 +8,19 @@ import subprocess
 import sys
 import tempfile
 
-CRATE = pathlib.Path(__file__).resolve().parent.parent / "crates/ledger"
+CRATES = pathlib.Path(__file__).resolve().parent.parent / "crates"
+CASES = CRATES / "ledger/compile-fail"
 
 
 def errors_of(case):
     """The named errors of the crate with the case appended, and its status."""
     with tempfile.TemporaryDirectory() as folder:
-        crate = pathlib.Path(folder) / "crates/ledger"
-        for part in ("src", "specs", "proofs"):
-            shutil.copytree(CRATE / part, crate / part)
-        (pathlib.Path(folder) / "crates.txt").write_text("ledger:\n")
+        crates = pathlib.Path(folder) / "crates"
+        leave = shutil.ignore_patterns("out", "must-fail", "compile-fail")
+        for name in ("refusals", "ledger"):
+            shutil.copytree(CRATES / name, crates / name, ignore=leave)
+        (pathlib.Path(folder) / "crates.txt").write_text("refusals:\nledger: refusals\n")
+        crate = crates / "ledger"
         source = crate / "src/lib.rt"
         source.write_text(source.read_text() + "\n" + case)
         run = subprocess.run(["rt", "check"], cwd=crate, stdout=subprocess.PIPE, stderr=subprocess.STDOUT, text=True, check=False)
@@ -26,7 +29,7 @@ def errors_of(case):
 
 def main():
     failed = 0
-    for path in sorted((CRATE / "compile-fail").glob("*.txt")):
+    for path in sorted(CASES.glob("*.txt")):
         head, case = path.read_text().split("\n---\n", 1)
         expected = head.removeprefix("expect: ").strip()
         status, errors = errors_of(case)

@@ -7,10 +7,12 @@ use codes::TellsBit;
 
 // A belief in a bit: its sign tells the bit, its magnitude how sure it is.
 // What it means is a whole number of steps; each operation is exact on those.
+// Stays: std's operators promise neither steps nor exactness, so as supertraits each needs a law as long as its method here.
 pub trait Belief: Copy + TellsBit {
     ghost eighths: { Self → ℤ };
 
     // It stands for a whole number of steps.
+    // Stays: lent memory holds plain numbers, so this is asked and promised by clauses and is no field of a type.
     ghost exact: { Self → Type 0 };
 
     fn of(steps: u16) -> Self
@@ -68,7 +70,7 @@ impl Belief for i32 {
     ghost tells = { λ _ _. refl };
 
     fn of(steps: u16) -> i32 {
-        steps as i32
+        i32::from(steps)
     }
 
     fn plus(self, other: i32) -> i32 {

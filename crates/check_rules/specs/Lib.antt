@@ -4,3 +4,4 @@ pub mod Lows
 pub mod Table
 pub mod Admission
 pub mod Refusals
+pub mod Sound

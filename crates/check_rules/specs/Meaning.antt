@@ -1,5 +1,5 @@
 -- What a check rule means, in whole steps.
-use Rattle.std.specs.Prelude.{ℕ, ◌-◌, ◌≤◌, min, max, List, slice_index}
+use Rattle.std.specs.Prelude.{◌≡◌, ℕ, ◌-◌, ◌<◌, ◌≤◌, min, max, List, length, ℤ, pos, slice_index}
 
 pub record Meaning : Type 0 where
   -- the belief in a known bit: no belief is larger
@@ -18,3 +18,7 @@ pub record SoundMeaning (rule : Meaning) : Type 0 where
 -- twelve raw beliefs, for the error classes 1 to 12; a class out of range is the nearer end
 abbrev pub raw_at : List ℕ → ℕ → ℕ
 raw_at beliefs q = slice_index beliefs (min (max q 1) 12 - 1)
+
+-- a position's magnitude, in steps, is the one at place i
+abbrev pub GaveAt : List ℕ → ℕ → ℤ → Type 0
+GaveAt xs i size = (i < length xs) × (size ≡ pos (slice_index xs i))

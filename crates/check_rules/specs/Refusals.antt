@@ -1,22 +1,20 @@
--- Each refusal's number, the table that it tells and the entry, counted from 1; 0 where none is told.
-use Rattle.std.specs.Prelude.{ℕ}
+-- What each refusal tells: its number, the table, and the entry, counted from 1; 0 where none is told.
+use Rattle.std.specs.Prelude.{ℕ, ◌==◌, if◌then◌else◌, List, ◌++◌, codes}
+use Rattle.std.specs.Fmt.{decimal}
+use Rattle.check_rules.specs.declared.refusal.TableTold.{TableTold}
 use Rattle.check_rules.specs.declared.refusal.TableRefusal.{TableRefusal}
 use Rattle.check_rules.specs.declared.refusal.TableRefusal.TheVariants.{WrongLength, WrongF2a, WrongA2f, WrongRaw}
 
-abbrev pub table_number : TableRefusal → ℕ
-table_number WrongLength = 5
-table_number (WrongF2a entry) = 6
-table_number (WrongA2f entry) = 6
-table_number (WrongRaw entry) = 6
+abbrev pub told : ℕ → ℕ → ℕ → TableTold
+told number table entry = record { number = number; table = table; entry = entry }
 
-abbrev pub table_place : TableRefusal → ℕ
-table_place WrongLength = 0
-table_place (WrongF2a entry) = 0
-table_place (WrongA2f entry) = 1
-table_place (WrongRaw entry) = 2
+abbrev pub table_told : TableRefusal → TableTold
+table_told WrongLength = told 5 0 0
+table_told (WrongF2a entry) = told 6 0 entry
+table_told (WrongA2f entry) = told 6 1 entry
+table_told (WrongRaw entry) = told 6 2 entry
 
-abbrev pub entry_place : TableRefusal → ℕ
-entry_place WrongLength = 0
-entry_place (WrongF2a entry) = entry
-entry_place (WrongA2f entry) = entry
-entry_place (WrongRaw entry) = entry
+-- what is printed: the number, then table and entry, or one 0 where no entry is told
+abbrev pub told_text : TableTold → List ℕ
+told_text t =
+    decimal t.number ++ (if t.entry == 0 then codes " 0" else (codes " " ++ (decimal t.table ++ (codes " " ++ decimal t.entry))))

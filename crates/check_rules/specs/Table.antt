@@ -1,5 +1,5 @@
 -- The table rule, over the tables f2a, from magnitudes to summands, and a2f, from sums to magnitudes.
-use Rattle.std.specs.Prelude.{◌≡◌, ℕ, zero, suc, ◌*◌, ◌≤◌, min, max, cond, List, length, sum_by, count_by, ◌==◌, nat_eq, slice_index}
+use Rattle.std.specs.Prelude.{◌≡◌, ℕ, zero, suc, ◌*◌, ◌≤◌, min, cond, List, length, sum_by, count_by, ◌==◌, nat_eq, slice_index}
 use Rattle.check_rules.specs.Meaning.{Meaning, raw_at}
 
 -- a table's entries count from 1
@@ -20,15 +20,6 @@ table_sends f2a a2f others = cond (zeros others == 0) (from_sum f2a a2f (sum_by 
 
 unfoldable pub table_rule : List ℕ → List ℕ → List ℕ → Meaning
 table_rule f2a a2f raw = record { known = length f2a; raw = raw_at raw; sends = table_sends f2a a2f }
-
--- what lent tables mean, sound or not: no belief passes the known one, nor that one 4,095. Of sound tables this is the table rule
-unfoldable pub lent_rule : List ℕ → List ℕ → List ℕ → Meaning
-lent_rule f2a a2f raw =
-    record {
-      known = min (length f2a) 4095;
-      raw = λ q. min (max (raw_at raw q) 1) (min (length f2a) 4095);
-      sends = λ others. min (table_sends f2a a2f others) (min (length f2a) 4095);
-    }
 
 -- what is kept of the magnitudes while they are gathered
 pub record SumsOf (f2a xs : List ℕ) (zeros_in sum_of : ℕ) : Type 0 where

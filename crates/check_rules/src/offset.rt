@@ -1,8 +1,10 @@
-ghost use Rattle.std.specs.Prelude.{◌≡◌, ℕ, ◌-◌, ◌≤◌, [], ◌∷◌, map, pos, neg_ℤ};
-ghost use Rattle.std.specs.List.{AllByRecursion};
-ghost use Rattle.check_rules.specs.Lows.{LowsOf};
+ghost use Rattle.std.specs.Prelude.{◌≡◌, ℕ, ◌-◌, ◌≤◌, pos};
+ghost use Rattle.beliefs.specs.Steps.{Small};
+ghost use Rattle.check_rules.specs.Lows.{LowBeliefs, LowReplies};
 ghost use Rattle.check_rules.specs.Offset.{offset_rule};
+ghost use Rattle.check_rules.specs.Sound.{offset_sound};
 
+use crate::class::raw_place;
 use crate::rule::CheckRule;
 use beliefs::{Belief, higher, lower};
 
@@ -30,10 +32,11 @@ pub struct LowReply<B: Belief> {
 
 // A magnitude less the offset, at least 0.
 fn offset_from<B: Belief>(size: B) -> B
-    requires whole { B.Belief.exact size }
-    requires some { (a : ℕ) × (B.Belief.eighths size ≡ pos a) × (a ≤ 800) }
-    ensures kept { B.Belief.exact result }
-    ensures value { (a : ℕ) → B.Belief.eighths size ≡ pos a → B.Belief.eighths result ≡ pos (a - 4) }
+    requires whole { B.exact size }
+    requires some { (a : ℕ) × (B.eighths size ≡ pos a) × (a ≤ 800) }
+    ensures kept { B.exact result }
+    ensures small { Small (B.eighths result) }
+    ensures value { (a : ℕ) → B.eighths size ≡ pos a → B.eighths result ≡ pos (a - 4) }
 {
     let offset = B::of(4);
     if offset.under(size) {
@@ -43,6 +46,7 @@ fn offset_from<B: Belief>(size: B) -> B
     }
 }
 
+#[tactic(auto, unfolding(crate::specs::Offset::offset_rule), using(crate::proofs::TwoLows::low_reply))]
 impl<B: Belief> CheckRule<B> for OffsetRule {
     type Tally = Lows<B>;
 
@@ -50,17 +54,19 @@ impl<B: Belief> CheckRule<B> for OffsetRule {
 
     ghost meaning = { λ _. offset_rule };
 
-    ghost tallied = { λ _ xs t. B.Belief.exact t.least × B.Belief.exact t.next × ((a : ℕ) × (b : ℕ) × (B.Belief.eighths t.least ≡ pos a) × (B.Belief.eighths t.next ≡ pos b) × LowsOf 800 xs a b) };
+    ghost tallied = { λ _ xs t. LowBeliefs B.exact B.eighths xs t.least t.next };
 
-    ghost replies = { λ _ xs t. B.Belief.exact t.least × AllByRecursion B.Belief.exact t.sent × ((a : ℕ) × (b : ℕ) × (B.Belief.eighths t.least ≡ pos a) × (map B.Belief.eighths t.sent ≡ pos (b - 4) ∷ pos (a - 4) ∷ neg_ℤ (pos (b - 4)) ∷ neg_ℤ (pos (a - 4)) ∷ []) × LowsOf 800 xs a b) };
+    ghost replies = { λ _ xs t. LowReplies B.exact B.eighths xs t.least t.sent };
+
+    ghost sound = { λ _. offset_sound };
 
     fn known(&self) -> B {
         B::of(KNOWN)
     }
 
     fn raw(&self, q: u8) -> B {
-        let class = q.max(1).min(12) as usize;
-        B::of(OFFSET_RAW[class - 1])
+        let place = raw_place(q);
+        B::of(OFFSET_RAW[place])
     }
 
     fn none(&self) -> Lows<B> {
@@ -86,8 +92,9 @@ impl<B: Belief> CheckRule<B> for OffsetRule {
         }
     }
 
-    fn without(&self, reply: LowReply<B>, size: B, count: u32) -> B {
-        let larger = if reply.least.under(size) { 1 } else { 0 };
+    // Stays: a table reached by index; a choice by `if` and a negation take longer than C does.
+    fn without(&self, reply: &LowReply<B>, size: B, count: u32) -> B {
+        let larger = usize::from(reply.least.under(size));
         reply.sent[larger + 2 * (count as usize % 2)]
     }
 }

@@ -11,4 +11,14 @@ pub enum TableRefusal {
     WrongRaw(usize),
 }
 
+// What a refusal of tables tells: its number, the table (0 is f2a, 1 is a2f, 2 is the raw beliefs), and the entry.
+// Stays: apart from the trait of refusals, as a place there is one number and here two, the table's and the entry's,
+// 0 where none is told.
+#[derive(Clone, Copy, PartialEq, Eq, Debug)]
+pub struct TableTold {
+    pub number: u8,
+    pub table: u8,
+    pub entry: usize,
+}
+
 mod methods;

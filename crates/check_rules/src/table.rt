@@ -1,16 +1,21 @@
-ghost use Rattle.std.specs.Prelude.{◌≡◌, ℕ, ◌-◌, ◌≤◌, min, List, length, if◌then◌else◌, nat_eq, nat_lt};
-ghost use Rattle.check_rules.specs.Table.{entry, from_sum, SumsOf, lent_rule};
+ghost use Rattle.std.specs.Prelude.{◌≡◌, ℕ, ◌<◌, ◌≤◌, List, length, nat_eq, if◌then◌else◌, slice_index};
+ghost use Rattle.std.specs.List.{remove};
+ghost use Rattle.check_rules.specs.Admission.{Admissible};
+ghost use Rattle.check_rules.specs.Table.{entry, from_sum, table_sends, SumsOf, table_rule};
+ghost use Rattle.check_rules.specs.Sound.{table_sound};
 
+use crate::class::raw_place;
 use crate::rule::CheckRule;
 use beliefs::with_sign;
 
-// Tables of beliefs, admitted: a check sends what one table makes of the sum of the other's entries.
-// No fact about the tables is kept with them, since a result could then not hold them: what they mean is sound without.
+// Admitted tables of beliefs: a check sends what one table makes of the sum of the other's entries.
+// Stays: a rule of the project, 16-bit slices for both tables.
 #[derive(Clone, Copy)]
 pub struct TableRule<'a> {
     f2a: &'a [u16],
     a2f: &'a [u16],
     raw: &'a [u16],
+    ghost sound: { Admissible f2a.now a2f.now raw.now },
 }
 
 // How many magnitudes are 0, and the sum of the f2a entries.
@@ -23,7 +28,7 @@ pub struct Sums {
 fn is_zero(size: usize) -> u32
     ensures { result ≡ (if nat_eq size 0 then 1 else 0) }
 {
-    if size == 0 { 1 } else { 0 }
+    u32::from(size == 0)
 }
 
 // A table's entry, counted from 1.
@@ -34,62 +39,57 @@ fn entry_at(table: &[u16], place: usize) -> u16
     if place == 0 { 0 } else { table[place - 1] }
 }
 
-// What a sum of f2a entries sends, at most `most`.
-fn from_sum(a2f: &[u16], most: usize, sum: usize) -> usize
-    ensures { (f2a : List ℕ) → most ≡ min (length f2a) 4095 → result ≡ min (from_sum f2a a2f.now sum) most }
-{
-    if sum == 0 {
-        return most;
-    }
-    let place = sum.min(a2f.len());
-    (entry_at(a2f, place) as usize).min(most)
-}
-
 impl TableRule<'_> {
-    // The largest magnitude.
-    fn most(&self) -> usize
-        ensures { result ≡ min (length self.now.f2a.now) 4095 }
+    // What a sum of f2a entries sends.
+    #[tactic(auto, using(crate::proofs::TableSums::entry_above))]
+    fn from_sum(&self, sum: usize) -> u16
+        ensures { result ≡ from_sum self.now.f2a.now self.now.a2f.now sum }
     {
-        self.f2a.len().min(4095)
+        if sum == 0 {
+            return self.f2a.len() as u16;
+        }
+        let place = sum.min(self.a2f.len());
+        self.a2f[place - 1]
     }
 
-    // What the sums send to a position of this magnitude.
-    fn sent_size(&self, sums: Sums, size: usize) -> usize
+    // What the others send to a position of this magnitude.
+    #[tactic(auto, using(crate::proofs::TableSums::own_in_sum, crate::proofs::TableSums::others_send))]
+    fn sent_size(&self, sums: &Sums, size: usize) -> u16
         requires low { size ≤ length self.now.f2a.now }
-        requires some { entry self.now.f2a.now size ≤ sums.sum }
-        ensures { result ≡ (if nat_lt (if nat_eq size 0 then 1 else 0) sums.zeros then 0 else min (from_sum self.now.f2a.now self.now.a2f.now (sums.sum - entry self.now.f2a.now size)) (min (length self.now.f2a.now) 4095)) }
+        requires some { (xs : List ℕ) × (i : ℕ) × SumsOf self.now.f2a.now xs sums.now.zeros sums.now.sum
+            × (i < length xs) × (size ≡ slice_index xs i) }
+        ensures { (xs : List ℕ) (i : ℕ) → SumsOf self.now.f2a.now xs sums.now.zeros sums.now.sum → i < length xs → size ≡ slice_index xs i
+            → result ≡ table_sends self.now.f2a.now self.now.a2f.now (remove xs i) }
     {
         if is_zero(size) < sums.zeros {
             return 0;
         }
-        let own = entry_at(self.f2a, size) as u32;
-        from_sum(self.a2f, self.most(), (sums.sum - own) as usize)
+        let own = u32::from(entry_at(self.f2a, size));
+        self.from_sum((sums.sum - own) as usize)
     }
 }
 
+#[tactic(auto, unfolding(crate::specs::Table::table_rule))]
 impl<'a> CheckRule<i32> for TableRule<'a> {
     type Tally = Sums;
 
     type Reply = Sums;
 
-    ghost meaning = { λ t. lent_rule t.f2a.now t.a2f.now t.raw.now };
+    ghost meaning = { λ t. table_rule t.f2a.now t.a2f.now t.raw.now };
 
     ghost tallied = { λ t xs s. SumsOf t.f2a.now xs s.zeros s.sum };
 
     ghost replies = { λ t xs s. SumsOf t.f2a.now xs s.zeros s.sum };
 
+    ghost sound = { λ t. table_sound t.f2a.now t.a2f.now t.raw.now t.sound };
+
     fn known(&self) -> i32 {
-        self.most() as i32
+        self.f2a.len() as i32
     }
 
     fn raw(&self, q: u8) -> i32 {
-        let class = q.max(1).min(12) as usize;
-        let belief = if class <= self.raw.len() {
-            self.raw[class - 1]
-        } else {
-            0
-        };
-        (belief.max(1) as usize).min(self.most()) as i32
+        let place = raw_place(q);
+        i32::from(self.raw[place])
     }
 
     fn none(&self) -> Sums {
@@ -100,7 +100,7 @@ impl<'a> CheckRule<i32> for TableRule<'a> {
         let magnitude = size.unsigned_abs() as usize;
         Sums {
             zeros: tally.zeros + is_zero(magnitude),
-            sum: tally.sum + entry_at(self.f2a, magnitude) as u32,
+            sum: tally.sum + u32::from(entry_at(self.f2a, magnitude)),
         }
     }
 
@@ -108,9 +108,9 @@ impl<'a> CheckRule<i32> for TableRule<'a> {
         tally
     }
 
-    fn without(&self, reply: Sums, size: i32, count: u32) -> i32 {
-        let sent = self.sent_size(reply, size.unsigned_abs() as usize) as i32;
-        with_sign(sent, count)
+    fn without(&self, reply: &Sums, size: i32, count: u32) -> i32 {
+        let sent = self.sent_size(reply, size.unsigned_abs() as usize);
+        with_sign(i32::from(sent), count)
     }
 }
 

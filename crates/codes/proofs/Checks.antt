@@ -1,9 +1,10 @@
 -- Where an entry lies: the checks of a sound run do not overlap.
 use Rattle.std.proofs.Common.{◌≡◌, ℕ, zero, suc, ◌+◌, ◌-◌, ◌<◌, ◌≤◌, List, length, get_or, ap, ⊎_elim, add-one, arith}
 use Rattle.std.proofs.lemmas.Bool.{cases_order, cases_eq}
+use Rattle.std.proofs.lemmas.List.Edits.{length-between, get_or-between}
 use Rattle.codes.specs.Places.{AllBelow}
-use Rattle.codes.specs.Code.{start, end}
-use Rattle.codes.specs.Admission.{Filled, Rises, SoundCheck}
+use Rattle.codes.specs.Code.{start, end, check_in}
+use Rattle.codes.specs.Admission.{Admissible, Filled, Rises, SoundCheck}
 
 module _ (ends : List ℕ) (filled : AllBelow (Filled ends) (length ends)) where
   -- a check ends before any later one begins
@@ -61,3 +62,19 @@ ends-within ps ends k sound h =
     let last : j + 1 ≡ length ends = omega arith in
     omega (arith, ends_rise ends (λ i l. (sound i l).0) k j low near, (sound j near).0, (sound j near).2 last))
     (cases_eq (k + 1) (length ends))
+
+-- the positions of a check of a matrix are within its width, and at most 32
+module _ (n : ℕ) (ps ends : List ℕ) (k : ℕ) (sound : Admissible n (length ends) ps ends) (h : k < length ends) where
+  inside : end ends k ≤ length ps
+  inside = ends-within ps ends k sound.checks h
+
+  pub check-length : length (check_in ps ends k) ≡ end ends k - start ends k
+  check-length = length-between ps (start ends k) (end ends k) inside
+
+  pub check-few : length (check_in ps ends k) ≤ 32
+  check-few = omega (arith, check-length, (sound.checks k h).1)
+
+  pub check-within : AllBelow (λ i. get_or (check_in ps ends k) i 0 < n) (length (check_in ps ends k))
+  check-within i l =
+      let near : start ends k + i < end ends k = omega (arith, check-length) in
+      rw (get_or-between ps (start ends k) (end ends k) i 0 near) (sound.entries (start ends k + i) (omega (arith, inside))).0

@@ -29,3 +29,13 @@ degrees_more ps ds i n long h l inv k lt =
     count_by_more_no (λ p. eqb p k) ps i 0 h (ne_eqb (get_or ps i 0) k (λ e. ne (sym e))) in
     rw get_or-set_other (omega (arith, inv k lt, more)))
     (cases_eq k (get_or ps i 0))
+
+-- a position past the end of the counts adds to none of them
+pub degrees_past : (ps ds : List ℕ) (i n : ℕ)
+    → i < length ps
+    → n ≤ get_or ps i 0
+    → AllBelow (λ k. get_or ds k 0 ≡ degree (take i ps) k) n
+    → AllBelow (λ k. get_or ds k 0 ≡ degree (take (i + 1) ps) k) n
+degrees_past ps ds i n h past inv k lt =
+    let other : get_or ps i 0 ≢ k = omega arith in
+    omega (arith, inv k lt, count_by_more_no (λ p. eqb p k) ps i 0 h (ne_eqb (get_or ps i 0) k other))

@@ -9,7 +9,7 @@ use Rattle.codes.specs.Tells.{byte_bit}
 use Rattle.codes.specs.Code.{Code, check, checks}
 use Rattle.codes.specs.Syndrome.{parity, syndrome, added}
 
-parity_more : (bits ps : List ℕ) (i : ℕ)
+pub parity_more : (bits ps : List ℕ) (i : ℕ)
     → i < length ps
     → parity bits (take (i + 1) ps) ≡ (parity bits (take i ps) + get_or bits (get_or ps i 0) 0) % 2
 parity_more bits ps i h = omega (arith, sum_by_more (λ p. get_or bits p 0) ps i 0 h)

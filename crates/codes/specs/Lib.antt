@@ -7,3 +7,4 @@ pub mod Tells
 pub mod Refusals
 pub mod Of
 pub mod Lent
+pub mod Six

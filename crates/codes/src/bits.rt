@@ -23,7 +23,7 @@ impl TellsBit for i32 {
     ghost told = { sign_bit };
 
     fn bit(&self) -> u8 {
-        if *self < 0 { 1 } else { 0 }
+        u8::from(*self < 0)
     }
 }
 

@@ -1,23 +1,15 @@
-ghost use Rattle.std.specs.Prelude.{◌≡◌, ℕ, ◌+◌, ◌-◌, ◌<◌, ◌≤◌, vec_len};
-ghost use Rattle.codes.specs.Places.{AllBelow};
-ghost use Rattle.codes.specs.Limits.{Sizes};
-ghost use Rattle.codes.specs.Admission.{Filled, Small, Closed, Within, Rises, SoundPosition};
+ghost use Rattle.std.specs.Prelude.{length};
+ghost use Rattle.codes.specs.Admission.{Admissible};
 
 // An admitted parity-check matrix: its runs are sound, so no caller tests them again.
+// Stays: one run of entries and one of ends, a rule of the project, as they were handed in.
 #[derive(Drop)]
 pub struct Matrix {
     number: u32,
     width: usize,
     positions: Vec<u16>,
     ends: Vec<u16>,
-    ghost sizes: { Sizes width (vec_len ends) },
-    ghost entries: { vec_len positions ≤ 8192 },
-    ghost filled: { AllBelow (Filled ends.items) (vec_len ends) },
-    ghost small: { AllBelow (Small ends.items) (vec_len ends) },
-    ghost closed: { AllBelow (Closed positions.items ends.items) (vec_len ends) },
-    ghost within: { AllBelow (Within width positions.items) (vec_len positions) },
-    ghost rises: { AllBelow (Rises positions.items ends.items) (vec_len positions) },
-    ghost places: { AllBelow (SoundPosition positions.items) width },
+    ghost sound: { Admissible width (length ends.items) positions.items ends.items },
 }
 
 mod methods;

@@ -2,8 +2,11 @@
 use Rattle.std.specs.Prelude.{◌≡◌, ℕ, ◌+◌, ◌*◌, ◌/◌, ◌%◌, List, map, length, slice_index}
 use Rattle.std.specs.List.{range_with_len}
 
+abbrev pub number16 : List ℕ → ℕ → ℕ
+number16 bytes i = slice_index bytes (2 * i) * 256 + slice_index bytes (2 * i + 1)
+
 unfoldable pub numbers16 : List ℕ → List ℕ
-numbers16 bytes = map (λ i. slice_index bytes (2 * i) * 256 + slice_index bytes (2 * i + 1)) (range_with_len 0 (length bytes / 2))
+numbers16 bytes = map (number16 bytes) (range_with_len 0 (length bytes / 2))
 
 -- a run whose last number has one byte is no run of numbers
 abbrev pub Whole : List ℕ → Type 0

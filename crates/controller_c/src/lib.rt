@@ -1,6 +1,7 @@
 #![tactic(auto)]
 
 // What C links: the controller's functions under their C names, each with the library's clause.
+// Stays: the functions stand here again, as what C links is a crate of its own.
 ghost use Rattle.controller.specs.Frames.{FrameReplies};
 ghost use Rattle.controller.specs.Replies.{AdmitReplies, SyndromeReplies};
 

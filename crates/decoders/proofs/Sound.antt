@@ -1,7 +1,6 @@
 -- What every decoder may rest on: the question that a call asks is sound.
-use Rattle.std.proofs.Common.{◌≡◌, ℕ, ◌-◌, ◌<◌, ◌≤◌, List, ◌++◌, map, length, take, drop, vec_items, vec_len, refl, ◌∙◌, arith}
+use Rattle.std.proofs.Common.{◌≡◌, ℕ, ◌-◌, ◌<◌, ◌≤◌, List, ◌++◌, map, length, take, drop, ◌∙◌, arith}
 use Rattle.std.proofs.lemmas.List.{length-map, length-take-le, get_or-map, take_at, drop_at}
-use Rattle.codes.specs.Admission.{Admissible}
 use Rattle.codes.specs.Code.{checks}
 use Rattle.codes.specs.Of.{code_of}
 use Rattle.codes.specs.Syndrome.{IsKey}
@@ -9,19 +8,6 @@ use Rattle.codes.specs.declared.matrix.Matrix.{Matrix}
 use Rattle.decoders.specs.Question.{Answer, asked, bit_of, SoundQuestion}
 use Rattle.decoders.specs.Decoding.{Answered}
 use Rattle.decoders.specs.declared.state.State.{State}
-
--- an admitted matrix stands for runs that are one
-pub admitted : (x : Matrix) → Admissible x.width (checks (code_of x)) (vec_items x.positions) (vec_items x.ends)
-admitted x =
-    let e : vec_len x.ends ≡ length (vec_items x.ends) = x.ends.ok.0 in
-    let p : vec_len x.positions ≡ length (vec_items x.positions) = x.positions.ok.0 in
-    let s = x.sizes in
-    record {
-      sizes = ((s.0, s.1, omega (arith, s.2), omega (arith, s.3), omega (arith, s.4)), omega (arith, x.entries), refl);
-      checks = λ k h. (x.filled k (omega arith), x.small k (omega arith), x.closed k (omega arith));
-      entries = λ k h. (x.within k (omega arith), x.rises k (omega arith));
-      places = x.places;
-    }
 
 -- the difference bits of a question are bits, one a check
 pub asked-difference : (m : ℕ) (difference : List ℕ) → m ≤ length difference → IsKey m (map bit_of (take m difference))
@@ -43,7 +29,7 @@ pub asked-sound : (x : Matrix) (difference : List ℕ) (states : List State) (q 
 unfolding asked
 asked-sound x difference states q checked stated =
     record {
-      matrix = admitted x;
+      matrix = x.sound;
       difference = asked-difference (checks (code_of x)) difference checked;
       states = length-take-le x.width states stated;
       low = omega arith;

@@ -1,8 +1,10 @@
 -- When a pattern fits a question.
 use Rattle.std.specs.Prelude.{ℕ, zero, suc, ◌≤◌, Bool, true, false, ◌&&◌, List, length, ◌==◌, slice_index, slice_index_or}
 use Rattle.codes.specs.Code.{Code, check_in, checks}
+use Rattle.codes.specs.Of.{code_of}
 use Rattle.codes.specs.Syndrome.{parity}
 use Rattle.decoders.specs.Question.{Question}
+use Rattle.decoders.specs.declared.inquiry.Inquiry.{Inquiry}
 use Rattle.decoders.specs.declared.state.State.{State}
 use Rattle.decoders.specs.declared.state.State.TheVariants.{Raw, Punctured, Known0, Known1}
 
@@ -28,6 +30,10 @@ agrees Known1 b = b == 1
 abbrev pub meets : List ℕ → List ℕ → List ℕ → List ℕ → ℕ → Bool
 meets positions ends difference pattern k = parity pattern (check_in positions ends k) == slice_index difference k
 
+-- every check that has a difference bit is met
+abbrev pub checks_met : Code → List ℕ → List ℕ → Bool
+checks_met code difference pattern = all_below (meets code.positions code.ends difference pattern) (length difference)
+
 abbrev pub check_fits : Question → List ℕ → ℕ → Bool
 check_fits q pattern k = meets q.code.positions q.code.ends q.difference pattern k
 
@@ -41,7 +47,7 @@ unfoldable pub pattern_fits : Question → List ℕ → Bool
 pattern_fits q pattern = all_below (check_fits q pattern) (checks q.code) && all_below (place_fits q pattern) q.code.width
 
 -- the runs that the test reads are long enough
-pub record LongRuns (code : Code) (difference : List ℕ) (states : List State) (pattern : List ℕ) : Type 0 where
-  pub checked : checks code ≤ length difference
-  pub stated : code.width ≤ length states
-  pub patterned : code.width ≤ length pattern
+pub record LongRuns (i : Inquiry) (pattern : List ℕ) : Type 0 where
+  pub checked : checks (code_of i.matrix.now) ≤ length i.difference.now
+  pub stated : i.matrix.now.width ≤ length i.states.now
+  pub patterned : i.matrix.now.width ≤ length pattern

@@ -1,11 +1,8 @@
--- The refusal's number, and the place that it tells.
-use Rattle.std.specs.Prelude.{ℕ}
+-- What the refusal tells: its number, and no place.
+use Rattle.refusals.specs.declared.Told.{Told}
+use Rattle.refusals.specs.Told.{told}
 use Rattle.decoders.specs.declared.refusal.DecoderRefusal.{DecoderRefusal}
 use Rattle.decoders.specs.declared.refusal.DecoderRefusal.TheVariants.{ShortBuffer}
 
-abbrev pub decoder_number : DecoderRefusal → ℕ
-decoder_number ShortBuffer = 20
-
--- none is named
-abbrev pub decoder_place : DecoderRefusal → ℕ
-decoder_place ShortBuffer = 0
+abbrev pub decoder_told : DecoderRefusal → Told
+decoder_told ShortBuffer = told 20 0

@@ -1,8 +1,6 @@
-pub mod Marks
+pub mod Words
 pub mod Holding
 pub mod Votes
 pub mod Steps
-pub mod Starts
+pub mod Exact
 pub mod Keeps
-pub mod Weights
-pub mod Decodes

@@ -1,35 +1,29 @@
 -- Bit flipping.
-use Rattle.std.specs.Prelude.{ℕ, zero, suc, ◌+◌, ◌-◌, min, max, Bool, cond, not, List, map, length, ◌==◌, nat_lt, slice_index, slice_index_or, slice_set}
+use Rattle.std.specs.Prelude.{ℕ, zero, suc, ◌+◌, ◌-◌, min, max, Bool, cond, not, List, map, ◌==◌, nat_lt, slice_index, slice_index_or, slice_set}
 use Rattle.std.specs.List.{range_with_len}
-use Rattle.codes.specs.Code.{checks, check_in}
+use Rattle.codes.specs.Code.{Code, check, checks}
 use Rattle.codes.specs.Admission.{degree}
 use Rattle.decoders.specs.Question.{Question}
 use Rattle.decoders.specs.Decoding.{Rule, Room}
-use Rattle.decoders.specs.Fit.{is_known, meets, check_fits, pattern_fits}
+use Rattle.decoders.specs.Fit.{is_known, check_fits, pattern_fits}
 use Rattle.decoders.specs.declared.state.State.{State}
 use Rattle.decoders.specs.declared.state.State.TheVariants.{Raw, Punctured, Known0, Known1}
 
 -- how many of the first m checks pass the test and hold position i, which a check names once at most
-abbrev pub holding : List ℕ → List ℕ → (ℕ → Bool) → ℕ → ℕ → ℕ
-holding positions ends test zero i = 0
-holding positions ends test (suc k) i =
-    holding positions ends test k i + cond (test k) (degree (check_in positions ends k) i) 0
+abbrev pub holding : Code → (ℕ → Bool) → ℕ → ℕ → ℕ
+holding code test zero i = 0
+holding code test (suc k) i = holding code test k i + cond (test k) (degree (check code k) i) 0
 
 -- check k's parity over the pattern is not its difference bit
-abbrev pub misses : List ℕ → List ℕ → List ℕ → List ℕ → ℕ → Bool
-misses positions ends difference pattern k = not (meets positions ends difference pattern k)
-
--- how many checks hold position i and are not met
-abbrev pub unmet_in : List ℕ → List ℕ → List ℕ → List ℕ → ℕ → ℕ
-unmet_in positions ends difference pattern i =
-    holding positions ends (misses positions ends difference pattern) (length ends) i
+abbrev pub misses : Question → List ℕ → ℕ → Bool
+misses q pattern k = not (check_fits q pattern k)
 
 -- the checks of position i that the pattern meets, and those that it does not
 unfoldable pub met : Question → List ℕ → ℕ → ℕ
-met q pattern i = holding q.code.positions q.code.ends (check_fits q pattern) (checks q.code) i
+met q pattern i = holding q.code (check_fits q pattern) (checks q.code) i
 
 unfoldable pub unmet : Question → List ℕ → ℕ → ℕ
-unmet q pattern i = unmet_in q.code.positions q.code.ends q.difference pattern i
+unmet q pattern i = holding q.code (misses q pattern) (checks q.code) i
 
 -- a known position has no say in what is flipped
 abbrev pub votes : List State → (ℕ → ℕ) → ℕ → ℕ

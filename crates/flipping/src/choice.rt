@@ -16,6 +16,7 @@ fn vote(state: State, count: i32) -> u32
 }
 
 // The first of the not-known positions that lie in most unmet checks, if any lies in one.
+// Stays: of equals `max_by_key` gives the last, so a chain would go backwards and turn the place round again.
 pub(crate) fn most_unmet(states: &[State], counts: &[i32]) -> Option<usize>
     requires { length counts.now ≡ length states.now }
     ensures { (f : ℕ → ℕ) → Holds counts.now f (length states.now) → MatchOption result
@@ -23,13 +24,13 @@ pub(crate) fn most_unmet(states: &[State], counts: &[i32]) -> Option<usize>
         (λ i. (most_of (votes states.now f) (length states.now) ≢ 0) × (i ≡ leader_of (votes states.now f) (length states.now))) }
 {
     let mut most = 0u32;
-    let mut leader = 0usize;
+    let mut leader = None;
     for (i, count) in counts.iter().enumerate() {
         let here = vote(states[i], *count);
         if most < here {
             most = here;
-            leader = i;
+            leader = Some(i);
         }
     }
-    if most == 0 { None } else { Some(leader) }
+    leader
 }

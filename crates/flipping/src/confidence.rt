@@ -1,21 +1,12 @@
 ghost use Rattle.std.specs.Prelude.{◌≡◌, ℕ, ◌+◌, ◌-◌, ◌*◌, ◌<◌, ◌≤◌, length, pos, slice_index};
 ghost use Rattle.codes.specs.Places.{AllBelow};
 ghost use Rattle.codes.specs.Admission.{degree};
-ghost use Rattle.flipping.specs.Words.{Holds};
+ghost use Rattle.codes.specs.Syndrome.{IsKey};
+ghost use Rattle.decoders.specs.Inquiry.{question};
+ghost use Rattle.flipping.specs.Flips.{confidences};
 
-// How many checks hold each position.
-pub(crate) fn count_checks(positions: &[u16], confidence: &mut [u32])
-    requires few { length positions.now ≤ 8192 }
-    requires within { AllBelow (λ j. slice_index positions.now j < length confidence.old) (length positions.now) }
-    ensures { AllBelow (λ i. slice_index confidence.new i ≡ degree positions.now i) (length confidence.old) }
-{
-    for c in confidence.iter_mut() {
-        *c = 0;
-    }
-    for p in positions {
-        confidence[*p as usize] += 1;
-    }
-}
+use crate::counts::count_unmet;
+use crate::front::Front;
 
 // 16 plus met less unmet checks, of a position with so many checks in all.
 fn balance(checks: u32, unmet: i32) -> u32
@@ -26,14 +17,17 @@ fn balance(checks: u32, unmet: i32) -> u32
     16 + checks - 2 * unmet.unsigned_abs()
 }
 
-// From the number of a position's checks to its confidence.
-pub(crate) fn weigh(counts: &[i32], confidence: &mut [u32])
-    requires long { length counts.now ≡ length confidence.old }
-    requires few { AllBelow (λ i. slice_index confidence.old i ≤ 16) (length confidence.old) }
-    requires part { (f : ℕ → ℕ) × Holds counts.now f (length confidence.old) × AllBelow (λ i. f i ≤ slice_index confidence.old i) (length confidence.old) }
-    ensures { (f : ℕ → ℕ) → Holds counts.now f (length confidence.old) → AllBelow (λ i. slice_index confidence.new i ≡ 16 + slice_index confidence.old i - 2 * f i) (length confidence.old) }
+// The confidence of each position of a pattern.
+// Stays: by the index, since the proof over a zip of `iter_mut` did not close.
+pub(crate) fn weigh(front: &Front<'_>, pattern: &[u8], confidence: &mut [u32], counts: &mut [i32])
+    requires bits { IsKey front.now.inquiry.matrix.now.width pattern.now }
+    requires trusted { length confidence.old ≡ front.now.inquiry.matrix.now.width }
+    requires wide { length counts.old ≡ front.now.inquiry.matrix.now.width }
+    ensures { confidence.new ≡ confidences (question front.now.inquiry) pattern.now }
 {
-    for i in 0..confidence.len() {
-        confidence[i] = balance(confidence[i], counts[i]);
+    count_unmet(front, pattern, counts);
+    front.inquiry.matrix.count_degrees(confidence);
+    for (i, c) in confidence.iter_mut().enumerate() {
+        *c = balance(*c, counts[i]);
     }
 }

@@ -1,14 +1,14 @@
-ghost use Rattle.std.specs.Prelude.{◌≡◌, ◌+◌, length};
-ghost use Rattle.decoders.specs.Question.{Question};
+ghost use Rattle.std.specs.Prelude.{◌≡◌, length};
+ghost use Rattle.decoders.specs.Inquiry.{question};
 ghost use Rattle.flipping.specs.Flips.{flipping_rule, flipping_room};
+ghost use Rattle.flipping.specs.Formed.{flipping_formed};
 ghost use Rattle.flipping.specs.Promises.{KeepsKnown, WithinLimit, LeaderIsFirst};
-ghost use Rattle.flipping.specs.Runs.{SoundRuns, Asks};
 
-use crate::confidence::{count_checks, weigh};
-use crate::counts::survey;
+use crate::confidence::weigh;
+use crate::front::Front;
 use crate::pattern::{settle, start_pattern};
 use codes::Matrix;
-use decoders::{Decoder, DecoderRefusal, State, suffices};
+use decoders::{Decoder, DecoderRefusal, Inquiry};
 
 // Bit flipping with at most so many flips; a limit outside 1 to 2,048 counts as the nearer end.
 #[derive(Clone, Copy, PartialEq, Eq, Debug)]
@@ -27,35 +27,26 @@ impl Flipping {
     }
 }
 
-// Answers the question that these runs put, in buffers of just its size.
+// Answers a question, in buffers of just its size.
+// Stays: pattern, confidence and counts are lent apart, a rule of the project, and so each call tells their lengths.
+#[tactic(auto, unfolding(crate::specs::Flips::flipping_rule), using(crate::proofs::Exact::states_are, crate::proofs::Exact::starts))]
 fn solve(
     limit: u16,
-    positions: &[u16],
-    ends: &[u16],
-    difference: &[u8],
-    states: &[State],
+    front: &Front<'_>,
     pattern: &mut [u8],
     confidence: &mut [u32],
-    marks: &mut [i32],
     counts: &mut [i32],
 )
-    requires sound { SoundRuns positions.now ends.now (length pattern.old) }
-    requires long { length difference.now ≡ length ends.now }
-    requires stated { length states.now ≡ length pattern.old }
-    requires trusted { length confidence.old ≡ length pattern.old }
-    requires room { length marks.old ≡ length ends.now }
-    requires wide { length counts.old ≡ length pattern.old }
-    ensures pattern { (q : Question) → Asks q positions.now ends.now difference.now states.now → pattern.new ≡ (flipping_rule limit q).pattern }
-    ensures confidence { (q : Question) → Asks q positions.now ends.now difference.now states.now → confidence.new ≡ (flipping_rule limit q).confidence }
+    requires patterned { length pattern.old ≡ front.now.inquiry.matrix.now.width }
+    requires trusted { length confidence.old ≡ front.now.inquiry.matrix.now.width }
+    requires wide { length counts.old ≡ front.now.inquiry.matrix.now.width }
+    ensures pattern { pattern.new ≡ (flipping_rule limit (question front.now.inquiry)).pattern }
+    ensures confidence { confidence.new ≡ (flipping_rule limit (question front.now.inquiry)).confidence }
 {
-    start_pattern(states, pattern);
-    let most = limit.max(1).min(2048);
-    settle(
-        most, positions, ends, difference, states, pattern, marks, counts,
-    );
-    survey(positions, ends, difference, pattern, marks, counts);
-    count_checks(positions, confidence);
-    weigh(counts, confidence);
+    start_pattern(front.inquiry.states, pattern);
+    let most = limit.clamp(1, 2048);
+    settle(most, front, pattern, counts);
+    weigh(front, pattern, confidence, counts);
 }
 
 impl Decoder for Flipping {
@@ -63,37 +54,28 @@ impl Decoder for Flipping {
 
     ghost room = { λ _. flipping_room };
 
+    ghost formed = { λ f. flipping_formed f.limit };
+
+    // One word a position and one a check, as is promised; only the former are used, for counts.
     fn need(&self, matrix: &Matrix) -> usize {
         matrix.width() + matrix.checks()
     }
 
     fn decode(
         &mut self,
-        matrix: &Matrix,
-        difference: &[u8],
-        states: &[State],
-        q: u8,
+        inquiry: &Inquiry<'_>,
         pattern: &mut [u8],
         confidence: &mut [u32],
         work: &mut [i32],
     ) -> Result<(), DecoderRefusal> {
-        let room = self.need(matrix);
-        if !suffices(room, matrix, difference, states, pattern, confidence, work) {
-            return Err(DecoderRefusal::ShortBuffer);
-        }
-        let n = matrix.width();
-        let m = matrix.checks();
-        let (counts, rest) = work.split_at_mut(n);
+        inquiry.test_lengths(self.need(inquiry.matrix), pattern, confidence, work)?;
+        let n = inquiry.matrix.width();
         solve(
             self.limit,
-            matrix.positions(),
-            matrix.ends(),
-            &difference[0..m],
-            &states[0..n],
-            &mut pattern[0..n],
-            &mut confidence[0..n],
-            &mut rest[0..m],
-            counts,
+            &Front::of(inquiry),
+            &mut pattern[..n],
+            &mut confidence[..n],
+            &mut work[..n],
         );
         Ok(())
     }

@@ -5,6 +5,7 @@ mod choice;
 mod confidence;
 mod counts;
 mod decoder;
+mod front;
 mod pattern;
 mod worked;
 

@@ -1,11 +1,11 @@
-ghost use Rattle.std.specs.Prelude.{◌≡◌, ◌<◌, map, length, slice_index};
-ghost use Rattle.codes.specs.Places.{AllBelow};
-ghost use Rattle.decoders.specs.Question.{Question};
+ghost use Rattle.std.specs.Prelude.{◌≡◌, map, length};
+ghost use Rattle.codes.specs.Syndrome.{IsKey};
+ghost use Rattle.decoders.specs.Inquiry.{question};
 ghost use Rattle.flipping.specs.Flips.{start_bit, run};
-ghost use Rattle.flipping.specs.Runs.{SoundRuns, Asks};
 
 use crate::choice::most_unmet;
-use crate::counts::survey;
+use crate::counts::count_unmet;
+use crate::front::Front;
 use decoders::State;
 
 fn start_bit(state: State) -> u8
@@ -18,38 +18,26 @@ fn start_bit(state: State) -> u8
 }
 
 // 0, or the known bit, at every position.
+// Stays: by the index, since the proof over a zip of `iter_mut` did not close.
 pub(crate) fn start_pattern(states: &[State], pattern: &mut [u8])
     requires { length pattern.old ≡ length states.now }
     ensures { pattern.new ≡ map start_bit states.now }
 {
-    for i in 0..pattern.len() {
-        pattern[i] = start_bit(states[i]);
+    for (i, bit) in pattern.iter_mut().enumerate() {
+        *bit = start_bit(states[i]);
     }
 }
 
 // Flips one position after another, at most `limit` of them, until no position that may be flipped lies in an unmet check.
-pub(crate) fn settle(
-    limit: u16,
-    positions: &[u16],
-    ends: &[u16],
-    difference: &[u8],
-    states: &[State],
-    pattern: &mut [u8],
-    marks: &mut [i32],
-    counts: &mut [i32],
-)
-    requires sound { SoundRuns positions.now ends.now (length pattern.old) }
-    requires bits { AllBelow (λ i. slice_index pattern.old i < 2) (length pattern.old) }
-    requires long { length difference.now ≡ length ends.now }
-    requires stated { length states.now ≡ length pattern.old }
-    requires room { length marks.old ≡ length ends.now }
-    requires wide { length counts.old ≡ length pattern.old }
-    ensures bits { AllBelow (λ i. slice_index pattern.new i < 2) (length pattern.old) }
-    ensures ran { (q : Question) → Asks q positions.now ends.now difference.now states.now → pattern.new ≡ run q limit pattern.old }
+pub(crate) fn settle(limit: u16, front: &Front<'_>, pattern: &mut [u8], counts: &mut [i32])
+    requires bits { IsKey front.now.inquiry.matrix.now.width pattern.old }
+    requires wide { length counts.old ≡ front.now.inquiry.matrix.now.width }
+    ensures bits { IsKey front.now.inquiry.matrix.now.width pattern.new }
+    ensures ran { pattern.new ≡ run (question front.now.inquiry) limit pattern.old }
 {
-    for done in 0..limit {
-        survey(positions, ends, difference, pattern, marks, counts);
-        let Some(i) = most_unmet(states, counts) else {
+    for _ in 0..limit {
+        count_unmet(front, pattern, counts);
+        let Some(i) = most_unmet(front.inquiry.states, counts) else {
             break;
         };
         pattern[i] = 1 - pattern[i];

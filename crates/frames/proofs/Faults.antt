@@ -1,18 +1,27 @@
 -- From what the reader finds, part after part, to what the bytes are read as.
-use Rattle.std.proofs.Common.{◌≡◌, ℕ, ◌+◌, ◌-◌, ◌<◌, ◌≤◌, max, true, false, cond, ◌||◌, eqb, ltb, List, length, get_or, take, drop, Ok, Err, sum, sym, refl, ap, ◌∙◌, subst, ⊎_elim, arith, lit<}
+use Rattle.std.proofs.Common.{◌≡◌, ℕ, ◌+◌, ◌-◌, ◌<◌, ◌≤◌, max, true, false, cond, ◌||◌, eqb, ltb, List, length, get_or, take, drop, Ok, Err, is_err, Result, sum, sym, refl, ap, ◌∙◌, subst, ⊎_elim, arith, lit<}
 use Rattle.std.proofs.lemmas.List.{length-drop}
 use Rattle.std.proofs.lemmas.Bool.{cases_lt, both_ways, ltb-true, eqb-true, lt-ltb, le-ltb, eq-eqb, ne_eqb, cond-true, cond-false, or_right, or_left, or_from}
+use Rattle.std.proofs.lemmas.Grind.{common_steps}
 use Rattle.codes.specs.Places.{AllBelow, FirstFault}
 use Rattle.runs.specs.Bits.{bytes_for, unpacked, SoundByte, SoundLast}
 use Rattle.runs.proofs.Packed.{long_enough, unpacked-take}
 use Rattle.runs.proofs.Bytes.{octal}
 use Rattle.frames.specs.declared.side.Side.{Side}
 use Rattle.frames.specs.declared.side.Side.TheVariants.{Alice, Bob}
-use Rattle.frames.specs.Numbers.{side_number}
+use Rattle.frames.specs.declared.kind.UnknownKind.{UnknownKind}
+use Rattle.frames.specs.declared.side.UnknownSide.{UnknownSide}
+use Rattle.frames.specs.declared.kind.Kind.{Kind}
+use Rattle.frames.specs.declared.kind.Kind.TheVariants.{Syndrome, Disclosure}
+use Rattle.frames.specs.Numbers.{kind_number, side_number, KindNumbered, SideNumbered}
 use Rattle.frames.specs.Shape.{syndrome_frame, disclosure_frame}
-use Rattle.frames.specs.Reading.{Head, kind_in, side_in, round_in, map_in, value_bytes, frame_in, frame_length, head_tests, clear_test, body_test, right_byte, outcome, read_shape}
-use Rattle.frames.specs.declared.refusal.Refusal.TheVariants.{WrongByte}
+use Rattle.frames.specs.Reading.{Head, HeadThen, kind_in, side_in, round_in, map_in, value_bytes, frame_in, frame_length, head_tests, clear_test, body_test, right_byte, outcome, read_shape}
+use Rattle.frames.specs.declared.refusal.FrameRefusal.TheVariants.{WrongByte}
 use Rattle.frames.proofs.Firsts.{three, three_parts, none_wrong, first_wrong_is}
+
+pub side-small : (side : Side) → side_number side < 2
+side-small Alice = lit< tt
+side-small Bob = lit< tt
 
 abbrev pub span : ℕ → ℕ → List ℕ → ℕ
 span n m bytes = max (length bytes) (frame_length n m bytes)
@@ -33,9 +42,7 @@ module _ (n m : ℕ) (bytes : List ℕ) where
   pub right_parts : (k : ℕ) → Right n m bytes k
       → (k < length bytes) × (k < frame_length n m bytes) × (cond (ltb k 8) (get_or (head_tests bytes) k true) (body_test n m bytes (k - 8)) ≡ true)
   unfolding right_byte
-  right_parts k r =
-      let p = three_parts (ltb k (length bytes)) (ltb k (frame_length n m bytes)) _ r in
-      (ltb-true k (length bytes) p.0, ltb-true k (frame_length n m bytes) p.1, p.2)
+  right_parts k r = grind (arith, common_steps, ltb-true, three_parts)
 
   right_from : (k : ℕ) → k < length bytes → k < frame_length n m bytes
       → cond (ltb k 8) (get_or (head_tests bytes) k true) (body_test n m bytes (k - 8)) ≡ true → Right n m bytes k
@@ -83,25 +90,16 @@ module _ (n m side block : ℕ) (bytes : List ℕ) (h : Head 1 side block 0 byte
   kind_1 = eq-eqb (kind_in bytes) 1 h.of_kind
 
   pub head_1 : AllBelow (Right n m bytes) 8
-  head_1 k l =
-      head_right n m bytes 8 h.whole (λ _. rw kind_1) (λ _. lt-ltb (side_in bytes) 2 (omega (arith, h.of_side)))
-      (λ _. or_right _ _ (cond-true _ _ _ kind_1 ∙ eq-eqb (round_in bytes) 0 h.of_round)) k l l
+  head_1 k l = grind (arith, common_steps, cond-true, eq-eqb, head_right, kind_1, lt-ltb, or_right)
 
   pub length_1 : frame_length n m bytes ≡ 8 + bytes_for m
   length_1 = ap (λ (x : ℕ). 8 + x) (cond-true _ _ _ kind_1)
 
   last_right : (q : ℕ) → SoundLast m (drop 8 bytes) q → Right n m bytes (8 + q)
-  last_right q sound =
-      let there = sound.1.0 in
-      body_right n m bytes q (omega (arith, length-drop 8 bytes)) (omega (arith, length_1, sound.0))
-      (cond-true _ _ _ kind_1 ∙ eq-eqb _ 0 sound.1.1)
+  last_right q sound = grind (arith, common_steps, body_right, cond-true, eq-eqb, kind_1, length-drop, length_1)
 
   pub right_last : (q : ℕ) → Right n m bytes (8 + q) → SoundLast m (drop 8 bytes) q
-  right_last q r =
-      let p = body_parts n m bytes q r in
-      let there = p.0 in
-      let wanted = p.1 in
-      (omega (arith, length_1), (omega (arith, length-drop 8 bytes), eqb-true _ 0 (sym (cond-true _ _ _ kind_1) ∙ p.2)))
+  right_last q r = grind (arith, common_steps, body_parts, cond-true, eqb-true, kind_1, length-drop, length_1)
 
   pub syndrome_fault : (q : ℕ) → FirstFault (SoundLast m (drop 8 bytes)) (max (length (drop 8 bytes)) (bytes_for m)) q → read_shape n m bytes ≡ Err (WrongByte (8 + q))
   syndrome_fault q f =
@@ -116,6 +114,23 @@ module _ (n m side block : ℕ) (bytes : List ℕ) (h : Head 1 side block 0 byte
       (λ j l. let w : j < bytes_for m = omega (arith, length_1, length-drop 8 bytes) in last_right j (w, sound j w)))
       ∙ ap Ok (cond-true _ _ _ kind_1 ∙ (let e = h.of_side in let b = h.of_block in cc))
 
+-- the same of the body that stands behind the head
+module _ (n m block q : ℕ) (side : Side) (body bytes : List ℕ) (h : HeadThen 1 (side_number side) block 0 body bytes) where
+  pub syndrome_fault_behind : FirstFault (SoundLast m body) (max (length body) (bytes_for m)) q → read_shape n m bytes ≡ Err (WrongByte (8 + q))
+  syndrome_fault_behind f =
+      let same = sym h.behind in
+      syndrome_fault n m (side_number side) block bytes h.head (side-small side) q
+      (subst (λ (b : List ℕ). FirstFault (SoundLast m b) (max (length b) (bytes_for m)) q) same f)
+
+module _ (n m block : ℕ) (side : Side) (body bytes bits : List ℕ) (h : HeadThen 1 (side_number side) block 0 body bytes) where
+  pub syndrome_read_behind : length body ≡ bytes_for m → AllBelow (SoundByte m body) (bytes_for m) → bits ≡ unpacked m body
+      → read_shape n m bytes ≡ Ok (syndrome_frame (side_number side) block bits)
+  syndrome_read_behind long sound is =
+      let run = subst (λ (b : List ℕ). (length b ≡ bytes_for m) × AllBelow (SoundByte m b) (bytes_for m)) (sym h.behind) (long, sound) in
+      let read = syndrome-read n m (side_number side) block bytes h.head (side-small side) run.0 run.1 in
+      let at = h.behind in
+      cc
+
 -- a disclosure, its head read: the body is to begin with the map, and the values are to be the rest
 module _ (n m side block round : ℕ) (bytes : List ℕ) (h : Head 2 side block round bytes) (s : side < 2) (later : 1 ≤ round) where
   abbrev ones : ℕ
@@ -125,10 +140,7 @@ module _ (n m side block round : ℕ) (bytes : List ℕ) (h : Head 2 side block 
   not_1 = ne_eqb (kind_in bytes) 1 (λ e. omega (arith, h.of_kind))
 
   pub head_2 : AllBelow (Right n m bytes) 8
-  head_2 k l =
-      head_right n m bytes 8 h.whole (λ _. or_right _ _ (eq-eqb (kind_in bytes) 2 h.of_kind))
-      (λ _. lt-ltb (side_in bytes) 2 (omega (arith, h.of_side)))
-      (λ _. or_right _ _ (cond-false _ _ _ not_1 ∙ lt-ltb 0 (round_in bytes) (omega (arith, h.of_round)))) k l l
+  head_2 k l = grind (arith, common_steps, cond-false, eq-eqb, head_right, lt-ltb, not_1, or_right)
 
   pub length_2 : frame_length n m bytes ≡ 8 + (bytes_for n + bytes_for ones)
   length_2 = ap (λ (x : ℕ). 8 + x) (cond-false _ _ _ not_1)
@@ -145,28 +157,16 @@ module _ (n m side block round : ℕ) (bytes : List ℕ) (h : Head 2 side block 
   value-length = length-drop (bytes_for n) (drop 8 bytes) ∙ ap (λ (x : ℕ). x - bytes_for n) (length-drop 8 bytes)
 
   map_right : (q : ℕ) → q < bytes_for n → SoundByte n (drop 8 bytes) q → Right n m bytes (8 + q)
-  map_right q l sound =
-      let there = sound.0 in
-      body_right n m bytes q (omega (arith, length-drop 8 bytes)) (omega (arith, length_2)) (map_test q l ∙ eq-eqb _ 0 sound.1)
+  map_right q l sound = grind (arith, common_steps, body_right, eq-eqb, length-drop, length_2, map_test)
 
   pub right_map : (q : ℕ) → q < bytes_for n → Right n m bytes (8 + q) → SoundByte n (drop 8 bytes) q
-  right_map q l r =
-      let p = body_parts n m bytes q r in
-      let there = p.0 in
-      (omega (arith, length-drop 8 bytes), eqb-true _ 0 (sym (map_test q l) ∙ p.2))
+  right_map q l r = grind (arith, common_steps, body_parts, eqb-true, length-drop, map_test)
 
   value_right : (j : ℕ) → SoundLast ones (value_bytes n bytes) j → Right n m bytes (8 + (bytes_for n + j))
-  value_right j sound =
-      let there = sound.1.0 in
-      body_right n m bytes (bytes_for n + j) (omega (arith, value-length)) (omega (arith, length_2, sound.0))
-      (value_test j ∙ eq-eqb _ 0 sound.1.1)
+  value_right j sound = grind (arith, common_steps, body_right, eq-eqb, length_2, value-length, value_test)
 
   pub right_value : (j : ℕ) → Right n m bytes (8 + (bytes_for n + j)) → SoundLast ones (value_bytes n bytes) j
-  right_value j r =
-      let p = body_parts n m bytes (bytes_for n + j) r in
-      let there = p.0 in
-      let wanted = p.1 in
-      (omega (arith, length_2), (omega (arith, value-length), eqb-true _ 0 (sym (value_test j) ∙ p.2)))
+  right_value j r = grind (arith, common_steps, body_parts, eqb-true, length_2, value-length, value_test)
 
   pub map_fault : (q : ℕ) → FirstFault (SoundByte n (drop 8 bytes)) (bytes_for n) q → read_shape n m bytes ≡ Err (WrongByte (8 + q))
   map_fault q f =
@@ -234,34 +234,84 @@ module _ (n m side block round : ℕ) (bytes body front rest named : List ℕ) (
       cc
 
 -- a head that is cut or wrong
+known_kind : (kind : Kind) (k : ℕ) → kind_number kind ≡ k → (eqb k 1 || eqb k 2) ≡ true
+known_kind Syndrome k e = grind (arith, common_steps)
+known_kind Disclosure k e = grind (arith, common_steps)
+
+no_kind : (k : ℕ) → ((kind : Kind) → kind_number kind ≡ k → ⊥) → (eqb k 1 || eqb k 2) ≡ false
+no_kind k none = let one = none Syndrome in let two = none Disclosure in grind (arith, common_steps)
+
+no_side : (s : ℕ) → ((side : Side) → side_number side ≡ s → ⊥) → 2 ≤ s
+no_side s none = let zero = none Alice in let one = none Bob in omega arith
+
 module _ (n m : ℕ) (bytes : List ℕ) where
   abbrev Known : Type 0
   Known = (eqb (kind_in bytes) 1 || eqb (kind_in bytes) 2) ≡ true
 
-  pub wrong_kind : (eqb (kind_in bytes) 1 || eqb (kind_in bytes) 2) ≡ false → read_shape n m bytes ≡ Err (WrongByte 0)
-  wrong_kind bad =
-      fault_at n m bytes 0 (omega arith) (λ r. both_ways _ bad (right_parts n m bytes 0 r).2) (λ k l. absurd (omega arith))
+  pub wrong_kind : ((kind : Kind) → kind_number kind ≡ kind_in bytes → ⊥) → read_shape n m bytes ≡ Err (WrongByte 0)
+  wrong_kind none =
+      fault_at n m bytes 0 (omega arith) (λ r. both_ways _ (no_kind (kind_in bytes) none) (right_parts n m bytes 0 r).2) (λ k l. absurd (omega arith))
 
-  pub wrong_side : 1 ≤ length bytes → Known → 2 ≤ side_in bytes → read_shape n m bytes ≡ Err (WrongByte 1)
-  wrong_side there k big =
+  pub wrong_side : (kind : Kind) → kind_number kind ≡ kind_in bytes → 1 < length bytes
+      → ((side : Side) → side_number side ≡ side_in bytes → ⊥) → read_shape n m bytes ≡ Err (WrongByte 1)
+  wrong_side kind known there none =
       fault_at n m bytes 1 (omega arith)
-      (λ r. both_ways _ (le-ltb (side_in bytes) 2 big) (right_parts n m bytes 1 r).2)
-      (λ i l. head_right n m bytes 1 there (λ _. k) (λ h. absurd (omega arith)) (λ h. absurd (omega arith)) i (omega arith) l)
+      (λ r. both_ways _ (le-ltb (side_in bytes) 2 (no_side (side_in bytes) none)) (right_parts n m bytes 1 r).2)
+      (λ i l. head_right n m bytes 1 (omega arith) (λ _. known_kind kind (kind_in bytes) known)
+      (λ h. absurd (omega arith)) (λ h. absurd (omega arith)) i (omega arith) l)
 
-  pub wrong_round : 8 ≤ length bytes → Known → side_in bytes < 2
+  wrong_round : 8 ≤ length bytes → Known → side_in bytes < 2
       → cond (eqb (kind_in bytes) 1) (eqb (round_in bytes) 0) (ltb 0 (round_in bytes)) ≡ false → read_shape n m bytes ≡ Err (WrongByte 6)
   wrong_round there k small bad =
       fault_at n m bytes 6 (omega arith)
       (λ r. both_ways _ (or_from _ _ (le-ltb (length bytes) 8 there) bad) (right_parts n m bytes 6 r).2)
       (λ i l. head_right n m bytes 6 (omega arith) (λ _. k) (λ _. lt-ltb (side_in bytes) 2 small) (λ h. absurd (omega arith)) i (omega arith) l)
 
-  pub cut_head : length bytes < 8 → (0 < length bytes → Known) → (1 < length bytes → side_in bytes < 2) → read_shape n m bytes ≡ Err (WrongByte (length bytes))
+  cut_head : length bytes < 8 → (0 < length bytes → Known) → (1 < length bytes → side_in bytes < 2) → read_shape n m bytes ≡ Err (WrongByte (length bytes))
   cut_head short k small =
       fault_at n m bytes (length bytes) (omega arith)
       (λ r. omega (arith, (right_parts n m bytes (length bytes) r).0))
       (λ i l. head_right n m bytes (length bytes) (omega arith) k (λ h. lt-ltb (side_in bytes) 2 (small h))
       (λ h. or_left _ _ (lt-ltb (length bytes) 8 short)) i (omega arith) l)
 
-pub side-small : (side : Side) → side_number side < 2
-side-small Alice = lit< tt
-side-small Bob = lit< tt
+  pub cut_at_kind : length bytes ≡ 0 → read_shape n m bytes ≡ Err (WrongByte (length bytes))
+  cut_at_kind none = cut_head (omega arith) (λ h. absurd (omega arith)) (λ h. absurd (omega arith))
+
+  pub cut_at_side : (kind : Kind) → kind_number kind ≡ kind_in bytes → length bytes ≡ 1 → read_shape n m bytes ≡ Err (WrongByte (length bytes))
+  cut_at_side kind known one = cut_head (omega arith) (λ h. known_kind kind (kind_in bytes) known) (λ h. absurd (omega arith))
+
+  pub cut_behind : (kind : Kind) (side : Side) → kind_number kind ≡ kind_in bytes → side_number side ≡ side_in bytes → length bytes < 8
+      → read_shape n m bytes ≡ Err (WrongByte (length bytes))
+  cut_behind kind side known end short = grind (arith, common_steps, cut_head, known_kind, side-small)
+
+  pub late_syndrome : (side : Side) → kind_in bytes ≡ 1 → side_number side ≡ side_in bytes → 8 ≤ length bytes → 1 ≤ round_in bytes
+      → read_shape n m bytes ≡ Err (WrongByte 6)
+  late_syndrome side kind end there late = grind (arith, common_steps, known_kind, side-small, wrong_round)
+
+  pub early_disclosure : (side : Side) → kind_in bytes ≡ 2 → side_number side ≡ side_in bytes → 8 ≤ length bytes → round_in bytes ≡ 0
+      → read_shape n m bytes ≡ Err (WrongByte 6)
+  early_disclosure side kind end there early = grind (arith, common_steps, known_kind, side-small, wrong_round)
+
+-- what was read of a kind or a side, or that nothing was
+pub wrong_side_read : (n m : ℕ) (bytes : List ℕ) (k : Result Kind UnknownKind) (s : Result Side UnknownSide)
+    → KindNumbered (kind_in bytes) k → SideNumbered (side_in bytes) s
+    → is_err k ≡ false → is_err s ≡ true → 1 < length bytes → read_shape n m bytes ≡ Err (WrongByte 1)
+wrong_side_read n m bytes (Ok kind) (Err u) known none is_ok is_wrong there = wrong_side n m bytes kind known there none.1
+wrong_side_read n m bytes (Ok kind) (Ok side) known end is_ok is_wrong there = absurd (both_ways false refl is_wrong)
+wrong_side_read n m bytes (Err u) s none end is_ok is_wrong there = absurd (both_ways true is_ok refl)
+
+pub cut_at_side_read : (n m : ℕ) (bytes : List ℕ) (k : Result Kind UnknownKind) → KindNumbered (kind_in bytes) k → is_err k ≡ false → length bytes ≡ 1
+    → read_shape n m bytes ≡ Err (WrongByte (length bytes))
+cut_at_side_read n m bytes (Ok kind) known is_ok one = cut_at_side n m bytes kind known one
+cut_at_side_read n m bytes (Err u) none is_ok one = absurd (both_ways true is_ok refl)
+
+pub cut_behind_read : (n m : ℕ) (bytes : List ℕ) (k : Result Kind UnknownKind) (s : Result Side UnknownSide)
+    → KindNumbered (kind_in bytes) k → SideNumbered (side_in bytes) s
+    → is_err k ≡ false → is_err s ≡ false → length bytes < 8 → read_shape n m bytes ≡ Err (WrongByte (length bytes))
+cut_behind_read n m bytes (Ok kind) (Ok side) known end is_ok is_right short = cut_behind n m bytes kind side known end short
+cut_behind_read n m bytes (Ok kind) (Err u) known end is_ok is_right short = absurd (both_ways true is_right refl)
+cut_behind_read n m bytes (Err u) s none end is_ok is_right short = absurd (both_ways true is_ok refl)
+
+pub ruleset cut = (wrong_kind, wrong_side_read, cut_at_kind, cut_at_side_read, cut_behind_read)
+
+pub ruleset head_faults = (wrong_kind, wrong_side, late_syndrome, early_disclosure)

@@ -1,5 +1,5 @@
 -- What is written is read back, and what is read is what writing gives.
-use Rattle.std.proofs.Common.{◌≡◌, ℕ, ◌+◌, ◌-◌, ◌*◌, ◌/◌, ◌%◌, ◌^◌, ◌<◌, ◌≤◌, true, false, cond, eqb, ltb, List, [], ◌∷◌, ◌++◌, length, get_or, take, drop, IfOk, Some, None, Ok, Err, sum, Option, Result, sym, refl, ap, ◌∙◌, subst, ⊎_elim, arith}
+use Rattle.std.proofs.Common.{◌≡◌, ℕ, ◌+◌, ◌*◌, ◌/◌, ◌%◌, ◌^◌, ◌<◌, ◌≤◌, true, false, cond, eqb, ltb, List, [], ◌∷◌, ◌++◌, length, get_or, take, drop, IfOk, Some, None, Ok, Err, sum, Option, Result, sym, refl, ap, ◌∙◌, subst, ⊎_elim, arith}
 use Rattle.std.proofs.lemmas.List.{length-drop, length-append, drop_at, get_or_append_left, get_or-drop, get_or-take, get_or_past, length-take, length-take-le, take-append-drop}
 use Rattle.std.proofs.lemmas.Bool.{cases_lt, both_ways, ltb-true, eqb-true, le-ltb, eq-eqb, ne_eqb, cond-true, cond-false, or_cases}
 use Rattle.std.proofs.lemmas.Nat.{shr-shr}
@@ -11,9 +11,10 @@ use Rattle.frames.specs.Format.{head_bytes, frame_bytes}
 use Rattle.frames.specs.Reading.{Head, kind_in, side_in, block_in, round_in, map_in, value_bytes, frame_in, frame_length, first_wrong, right_byte, outcome, read_shape}
 use Rattle.frames.specs.Of.{shape_of, reading_of}
 use Rattle.frames.specs.declared.frame.Frame.{Frame}
-use Rattle.frames.specs.declared.refusal.Refusal.{Refusal}
+use Rattle.frames.specs.declared.refusal.FrameRefusal.{FrameRefusal}
 use Rattle.frames.proofs.Firsts.{all_right}
 use Rattle.frames.proofs.Faults.{span, Right, right_parts, syndrome-read, disclosure_read, right_last, right_map, right_value, length_1, length_2, value-length}
+use Rattle.std.proofs.lemmas.Grind.{common_steps}
 
 -- four bytes make the number again
 four_bytes : (x : ℕ) → x < 2 ^ 32 → x / 2 ^ 24 % 256 * 2 ^ 24 + x / 2 ^ 16 % 256 * 2 ^ 16 + x / 2 ^ 8 % 256 * 2 ^ 8 + x % 256 ≡ x
@@ -32,10 +33,7 @@ written_head kind side block round body b r = record { whole = omega arith; of_k
 
 syndrome_back : (n side block : ℕ) (bits : List ℕ) → side < 2 → block < 2 ^ 32 → IsBits bits
     → read_shape n (length bits) (head_bytes 1 side block 0 ++ packed bits) ≡ Ok (syndrome_frame side block bits)
-syndrome_back n side block bits s b small =
-    let run = packed_is_run bits small in
-    syndrome-read n (length bits) side block (head_bytes 1 side block 0 ++ packed bits) (written_head 1 side block 0 (packed bits) b (omega arith)) s run.long run.sound
-    ∙ ap (λ (x : List ℕ). Ok (syndrome_frame side block x)) (unpacked-packed bits small)
+syndrome_back n side block bits s b small = grind (arith, common_steps, packed_is_run, syndrome-read, unpacked-packed, written_head)
 
 disclosure_back : (m side block round : ℕ) (named values : List ℕ) → side < 2 → block < 2 ^ 32 → 1 ≤ round → round < 2 ^ 16 → IsBits named → length values ≡ sum named → IsBits values
     → read_shape (length named) m (head_bytes 2 side block round ++ (packed named ++ packed values)) ≡ Ok (disclosure_frame side block round named values)
@@ -137,10 +135,7 @@ ok_parts frame shape (Some i) e = let z : ◌≡◌ {A = ℕ} 0 1 = cc in absurd
 -- bytes of which each is right
 module _ (n m : ℕ) (bytes : List ℕ) (small : IsBytes bytes) (good : AllBelow (Right n m bytes) (span n m bytes)) where
   whole : length bytes ≡ frame_length n m bytes
-  whole =
-      let last = (right_parts n m bytes (frame_length n m bytes - 1) (good (frame_length n m bytes - 1) (omega arith))).0 in
-      ⊎_elim (λ l. absurd (omega (arith, (right_parts n m bytes (frame_length n m bytes) (good (frame_length n m bytes) (omega arith))).1)))
-      (λ l. omega arith) (cases_lt (frame_length n m bytes) (length bytes))
+  whole = grind (arith, common_steps, cases_lt, right_parts)
 
   side_right : side_in bytes < 2
   side_right = ltb-true (side_in bytes) 2 (right_parts n m bytes 1 (good 1 (omega arith))).2
@@ -235,10 +230,10 @@ written_back n m bytes shape small e =
 
 -- the same of a frame in the code
 module _ (n m : ℕ) (bytes : List ℕ) (small : IsBytes bytes) where
-  pub frame_back : (r : Result Frame Refusal) → reading_of r ≡ read_shape n m bytes → IfOk r (λ frame. frame_bytes (shape_of frame) ≡ bytes)
+  pub frame_back : (r : Result Frame FrameRefusal) → reading_of r ≡ read_shape n m bytes → IfOk r (λ frame. frame_bytes (shape_of frame) ≡ bytes)
   frame_back (Ok frame) e = (written_back n m bytes (shape_of frame) small (sym e)).0
   frame_back (Err refusal) e = tt
 
-  pub frame_formed : (r : Result Frame Refusal) → reading_of r ≡ read_shape n m bytes → IfOk r (λ frame. WellFormed n m (shape_of frame))
+  pub frame_formed : (r : Result Frame FrameRefusal) → reading_of r ≡ read_shape n m bytes → IfOk r (λ frame. WellFormed n m (shape_of frame))
   frame_formed (Ok frame) e = (written_back n m bytes (shape_of frame) small (sym e)).1
   frame_formed (Err refusal) e = tt

@@ -1,10 +1,10 @@
 -- What bytes are read as, where a matrix has n positions and m checks: a frame, or the first byte at fault from the left.
-use Rattle.std.specs.Prelude.{◌≡◌, ℕ, zero, suc, ◌+◌, ◌-◌, ◌*◌, ◌%◌, ◌^◌, ◌≤◌, max, Bool, true, cond, ◌&&◌, ◌||◌, List, [], ◌∷◌, length, drop, Some, None, Ok, Err, sum, Option, Result, ◌==◌, nat_lt, slice_index, slice_index_or}
+use Rattle.std.specs.Prelude.{◌≡◌, ℕ, zero, suc, ◌+◌, ◌-◌, ◌*◌, ◌%◌, ◌^◌, ◌≤◌, max, Bool, true, cond, ◌&&◌, ◌||◌, List, [], ◌∷◌, length, take, drop, Some, None, Ok, Err, sum, Option, Result, ◌==◌, nat_lt, slice_index, slice_index_or}
 use Rattle.codes.specs.Limits.{Sizes}
 use Rattle.runs.specs.Bits.{bytes_for, unpacked, unused}
 use Rattle.frames.specs.Shape.{FrameShape, syndrome_frame, disclosure_frame}
-use Rattle.frames.specs.declared.refusal.Refusal.{Refusal}
-use Rattle.frames.specs.declared.refusal.Refusal.TheVariants.{WrongSize, WrongByte}
+use Rattle.frames.specs.declared.refusal.FrameRefusal.{FrameRefusal}
+use Rattle.frames.specs.declared.refusal.FrameRefusal.TheVariants.{WrongSize, WrongByte}
 
 -- what the head says; a byte that is missing counts as 0
 abbrev pub kind_in : List ℕ → ℕ
@@ -26,6 +26,11 @@ pub record Head (kind side block round : ℕ) (bytes : List ℕ) : Type 0 where
   pub of_side : side_in bytes ≡ side
   pub of_block : block_in bytes ≡ block
   pub of_round : round_in bytes ≡ round
+
+-- the same, and this is what stands behind it
+pub record HeadThen (kind side block round : ℕ) (body bytes : List ℕ) : Type 0 where
+  pub head : Head kind side block round bytes
+  pub behind : drop 8 bytes ≡ body
 
 -- the runs of a disclosure: the map, and behind it a bit for each of its ones
 abbrev pub map_in : ℕ → List ℕ → List ℕ
@@ -75,13 +80,21 @@ abbrev pub first_wrong : (ℕ → Bool) → ℕ → Option ℕ
 first_wrong test zero = None
 first_wrong test (suc n) = sooner (first_wrong test n) (cond (test n) None (Some n))
 
-abbrev pub outcome : FrameShape → Option ℕ → Result FrameShape Refusal
+abbrev pub outcome : FrameShape → Option ℕ → Result FrameShape FrameRefusal
 outcome shape None = Ok shape
 outcome shape (Some i) = Err (WrongByte i)
 
-unfoldable pub read_shape : ℕ → ℕ → List ℕ → Result FrameShape Refusal
+unfoldable pub read_shape : ℕ → ℕ → List ℕ → Result FrameShape FrameRefusal
 read_shape n m bytes = outcome (frame_in n m bytes) (first_wrong (right_byte n m bytes) (max (length bytes) (frame_length n m bytes)))
 
+-- the first len of the bytes are read as this frame of a matrix with n positions, whatever its checks are
+abbrev pub ReadAtWidth : ℕ → FrameShape → List ℕ → ℕ → Type 0
+ReadAtWidth n shape bytes len = (m : ℕ) → read_shape n m (take len bytes) ≡ Ok shape
+
+-- the same of a matrix with m checks, whatever its positions are
+abbrev pub ReadAtChecks : ℕ → FrameShape → List ℕ → ℕ → Type 0
+ReadAtChecks m shape bytes len = (n : ℕ) → read_shape n m (take len bytes) ≡ Ok shape
+
 -- sizes that no matrix has are refused before the bytes are looked at
-abbrev pub Reads : ℕ → ℕ → List ℕ → Result FrameShape Refusal → Type 0
+abbrev pub Reads : ℕ → ℕ → List ℕ → Result FrameShape FrameRefusal → Type 0
 Reads n m bytes answer = (Sizes n m → answer ≡ read_shape n m bytes) × ((Sizes n m → ⊥) → answer ≡ Err WrongSize)

@@ -2,17 +2,21 @@
 use Rattle.std.specs.Prelude.{ℕ, zero, suc, Bool, cond, List, [], ◌∷◌, ◌++◌, map, length, drop, Ok, Err, Result, ◌==◌, nat_lt, slice_index}
 use Rattle.std.specs.List.{range_with_len}
 use Rattle.runs.specs.Bits.{bit_of}
-use Rattle.frames.specs.Shape.{FrameShape, disclosure_frame}
-use Rattle.frames.specs.declared.refusal.Refusal.{Refusal}
-use Rattle.frames.specs.declared.refusal.Refusal.TheVariants.{ShortBuffer}
+use Rattle.frames.specs.Shape.{FrameShape, syndrome_frame, disclosure_frame}
+use Rattle.frames.specs.declared.refusal.FrameRefusal.{FrameRefusal}
+use Rattle.frames.specs.declared.refusal.FrameRefusal.TheVariants.{ShortBuffer}
 
 -- bytes come first and the rest of the buffer stays; a buffer that is too short stays whole
 abbrev pub laid : List ℕ → List ℕ → List ℕ
 laid bytes buffer = cond (nat_lt (length buffer) (length bytes)) buffer (bytes ++ drop (length bytes) buffer)
 
 -- how many bytes were written, or are needed
-abbrev pub room_for : List ℕ → List ℕ → Result ℕ Refusal
+abbrev pub room_for : List ℕ → List ℕ → Result ℕ FrameRefusal
 room_for bytes buffer = cond (nat_lt (length buffer) (length bytes)) (Err (ShortBuffer (length bytes))) (Ok (length bytes))
+
+-- an end's syndrome, one bit to a byte
+abbrev pub syndrome_of : ℕ → ℕ → List ℕ → FrameShape
+syndrome_of side block bits = syndrome_frame side block (map bit_of bits)
 
 -- the map of the positions below n that pass a test
 unfoldable pub map_of : (ℕ → Bool) → ℕ → List ℕ

@@ -1,6 +1,7 @@
 ghost use Rattle.std.specs.Prelude.{◌≡◌, ◌≤◌, MatchOption};
 
 // The number of a round in which positions are disclosed: any but 0, which publishes the syndrome.
+// Stays: the library's NonZeroU16 hides its number behind a function, and the clauses that read it here as a field would be no plainer.
 #[derive(Clone, Copy)]
 pub struct Round {
     number: u16,

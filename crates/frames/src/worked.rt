@@ -1,12 +1,13 @@
 ghost use Rattle.std.specs.Prelude.{◌≡◌, [], ◌∷◌};
 
 use crate::reading::read;
-use crate::refusal::Refusal;
+use crate::refusal::FrameRefusal;
 use crate::round::Round;
 use crate::side::Side;
 use crate::writing::{write_disclosure, write_syndrome};
 
 // Alice's syndrome 010 in block 7.
+#[tactic(auto, unfolding(crate::specs::Format::frame_bytes, runs::specs::Bits::packed_to))]
 pub fn worked_syndrome() -> [u8; 9]
     ensures { result ≡ 0x01 ∷ 0x00 ∷ 0x00 ∷ 0x00 ∷ 0x00 ∷ 0x07 ∷ 0x00 ∷ 0x00 ∷ 0x40 ∷ [] }
 {
@@ -16,6 +17,7 @@ pub fn worked_syndrome() -> [u8; 9]
 }
 
 // Of Alice's key 101100 in block 7, position 3 in round 1.
+#[tactic(auto, unfolding(crate::specs::Format::frame_bytes, crate::specs::Writing::map_of, crate::specs::Writing::gathered, runs::specs::Bits::packed_to))]
 pub fn worked_disclosure() -> [u8; 10]
     ensures { result ≡ 0x02 ∷ 0x00 ∷ 0x00 ∷ 0x00 ∷ 0x00 ∷ 0x07 ∷ 0x00 ∷ 0x01 ∷ 0x10 ∷ 0x80 ∷ [] }
 {
@@ -34,15 +36,16 @@ pub fn worked_disclosure() -> [u8; 10]
 }
 
 // Alice's syndrome with an unused bit set: its last byte is at fault.
-pub fn worked_refusal() -> Refusal
-    ensures { result ≡ Refusal.WrongByte 8 }
+#[tactic(auto, unfolding(crate::specs::Reading::read_shape, crate::specs::Reading::right_byte, runs::specs::Bits::unpacked))]
+pub fn worked_refusal() -> FrameRefusal
+    ensures { result ≡ FrameRefusal.WrongByte 8 }
 {
     match read(
         6,
         3,
         &[0x01, 0x00, 0x00, 0x00, 0x00, 0x07, 0x00, 0x00, 0x41],
     ) {
-        Ok(_) => Refusal::WrongSize,
+        Ok(_) => FrameRefusal::WrongSize,
         Err(refusal) => refusal,
     }
 }

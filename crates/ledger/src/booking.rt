@@ -1,13 +1,17 @@
-ghost use Rattle.std.specs.Prelude.{◌≡◌, ◌+◌, take, MatchResult, slice_set};
-ghost use Rattle.ledger.specs.Lines.{Room, totals_of, plus};
+ghost use Rattle.std.specs.Prelude.{◌≡◌, MatchResult};
+ghost use Rattle.ledger.specs.Lines.{totals_of, plus};
+ghost use Rattle.ledger.specs.Booking.{in_use, Booked, HandedBack};
 
 use crate::ledger::Ledger;
 use crate::line::{Line, Totals};
 use crate::note::{FullLedger, Note};
 
 // Books one note in a run of which `used` lines are in use, and tells how many are then.
+// Stays: a lent run with its count in use, a rule of the project.
 pub fn book_in(lines: &mut [Line], used: usize, note: Note) -> Result<usize, FullLedger>
-    ensures { MatchResult result (λ n. Room lines.old used × (n ≡ used + 1) × (lines.new ≡ slice_set lines.old used note.line)) (λ e. (Room lines.old used → ⊥) × (e.note ≡ note) × (lines.new ≡ lines.old)) }
+    ensures { MatchResult result
+        (λ n. Booked lines.old used note lines.new n)
+        (λ e. HandedBack lines.old used note e.note lines.new used) }
 {
     let mut ledger = Ledger::over(lines, used);
     ledger.book(note)?;
@@ -16,12 +20,7 @@ pub fn book_in(lines: &mut [Line], used: usize, note: Note) -> Result<usize, Ful
 
 // Two ledgers' totals together, for a panel that keeps more than one.
 pub fn joint_totals(first: &Ledger<'_>, second: &Ledger<'_>) -> Totals
-    ensures { result ≡ plus (totals_of (take first.now.used first.now.lines.now)) (totals_of (take second.now.used second.now.lines.now)) }
+    ensures { result ≡ plus (totals_of (in_use first.now)) (totals_of (in_use second.now)) }
 {
-    let a = first.totals();
-    let b = second.totals();
-    Totals {
-        raw: a.raw + b.raw,
-        leak: a.leak + b.leak,
-    }
+    first.totals() + second.totals()
 }

@@ -1,22 +1,28 @@
+ghost use Rattle.std.specs.Prelude.{◌≡◌};
+ghost use Rattle.ledger.specs.Refusals.{full_told};
+
+use crate::line::{Line, Outcome};
+use refusals::{Refusal, Told};
+use std::marker::Model;
+
 // What closing an end tells. It is neither copyable nor droppable, so it can only be booked, and only once.
 pub struct Note {
     line: Line,
 }
 
-// The note that found no line, handed back.
-pub struct FullLedger {
-    pub note: Note,
+// To contracts a note is the line that it is booked as.
+impl Model for Note {
+    ghost use Rattle.ledger.specs.declared.line.Line.{Line};
+
+    ghost Value = { Line };
+
+    ghost view = { λ n. n.line };
 }
-
-ghost use Rattle.std.specs.Prelude.{◌≡◌};
-ghost use Rattle.ledger.specs.Lines.{full_number, full_place};
-
-use crate::line::{Line, Outcome};
 
 impl Note {
     // For the close of an end, and nothing else.
     pub fn new(block: u32, side: u8, raw: u32, leak: u32, outcome: Outcome) -> Note
-        ensures { result.line ≡ record { block = block; side = side; raw = raw; leak = leak; outcome = outcome } }
+        ensures { result ≡ record { block = block; side = side; raw = raw; leak = leak; outcome = outcome } }
     {
         Note {
             line: Line {
@@ -29,55 +35,35 @@ impl Note {
         }
     }
 
-    pub fn block(&self) -> u32
-        ensures { result ≡ self.now.line.block }
+    // The line that it is to be booked as.
+    pub fn line(&self) -> Line
+        ensures { result ≡ self.now }
     {
-        self.line.block
-    }
-
-    pub fn side(&self) -> u8
-        ensures { result ≡ self.now.line.side }
-    {
-        self.line.side
-    }
-
-    pub fn raw(&self) -> u32
-        ensures { result ≡ self.now.line.raw }
-    {
-        self.line.raw
-    }
-
-    pub fn leak(&self) -> u32
-        ensures { result ≡ self.now.line.leak }
-    {
-        self.line.leak
-    }
-
-    pub fn outcome(&self) -> Outcome
-        ensures { result ≡ self.now.line.outcome }
-    {
-        self.line.outcome
+        self.line
     }
 
     // Takes the note apart into the line that it is booked as.
+    // Stays: a From would let anyone take a note apart, and a note may only be booked.
     pub(crate) fn into_line(self) -> Line
-        ensures { result ≡ self.line }
+        ensures { result ≡ self }
     {
         let Note { line } = self;
         line
     }
 }
 
-impl FullLedger {
-    pub fn number(&self) -> u8
-        ensures { result ≡ full_number }
-    {
-        22
-    }
+// The note that found no line, handed back.
+pub struct FullLedger {
+    pub note: Note,
+}
 
-    pub fn place(&self) -> usize
-        ensures { result ≡ full_place }
-    {
-        0
+impl Refusal for FullLedger {
+    ghost tells = { full_told };
+
+    fn told(&self) -> Told {
+        Told {
+            number: 22,
+            place: 0,
+        }
     }
 }

@@ -1,12 +1,10 @@
 pub mod Sizes
-pub mod Priors
 pub mod Elements
+pub mod Signs
+pub mod Filling
 pub mod Hearing
 pub mod Answering
-pub mod Filling
-pub mod Sending
 pub mod Totals
-pub mod Signs
+pub mod Sending
 pub mod Courses
-pub mod Runs
-pub mod Bounds
+pub mod Fits

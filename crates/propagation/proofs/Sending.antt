@@ -7,20 +7,38 @@ use Rattle.std.proofs.lemmas.List.Edits.{length-between}
 use Rattle.std.proofs.ByRecursion.{All-append, All-take, All-drop}
 use Rattle.std.proofs.lemmas.List.{map-append, append_assoc, take-map, drop-map, take_at, drop_at, drop-drop, length-append}
 use Rattle.codes.specs.Admission.{SoundCheck}
-use Rattle.codes.specs.Code.{start, end, check_in}
+use Rattle.codes.specs.Code.{start, end, check, checks, check_in}
+use Rattle.codes.specs.Of.{code_of}
+use Rattle.codes.specs.declared.matrix.Matrix.{Matrix}
 use Rattle.codes.specs.Places.{AllBelow}
-use Rattle.codes.proofs.Checks.{ends-within}
+use Rattle.codes.proofs.Checks.{ends-within, check-length}
 use Rattle.check_rules.specs.Meaning.{Meaning}
 use Rattle.propagation.specs.Check.{received, heard, answer, answers}
 use Rattle.propagation.specs.Passes.{sent_by, sent_up_to}
 
-pub length-heard : (k : ℕ) (totals : List ℤ) (check : List ℕ) (last : List ℤ) → length (heard k totals check last) ≡ length check
+pub length_heard : (k : ℕ) (totals : List ℤ) (check : List ℕ) (last : List ℤ) → length (heard k totals check last) ≡ length check
 unfolding heard
-length-heard k totals check last = length-map-range_with_len (received k totals check last) 0 (length check)
+length_heard k totals check last = length-map-range_with_len (received k totals check last) 0 (length check)
 
-pub length-answers : (rule : Meaning) (bit : ℕ) (xs : List ℤ) → length (answers rule bit xs) ≡ length xs
+pub length_answers : (rule : Meaning) (bit : ℕ) (xs : List ℤ) → length (answers rule bit xs) ≡ length xs
 unfolding answers
-length-answers rule bit xs = length-map-range_with_len (answer rule bit xs) 0 (length xs)
+length_answers rule bit xs = length-map-range_with_len (answer rule bit xs) 0 (length xs)
+
+-- where a check of a matrix lies
+pub record Reaches (x : Matrix) (k : ℕ) : Type 0 where
+  pub whole : start (code_of x).ends k + length (check (code_of x) k) ≡ end (code_of x).ends k
+  pub inside : end (code_of x).ends k ≤ length (code_of x).positions
+  pub next : start (code_of x).ends (k + 1) ≡ end (code_of x).ends k
+
+pub reaches : (x : Matrix) (k : ℕ) → k < checks (code_of x) → Reaches x k
+reaches x k h =
+    let ps = (code_of x).positions in
+    let ends = (code_of x).ends in
+    record {
+      whole = omega (arith, check-length x.width ps ends k x.sound h, (x.sound.checks k h).0);
+      inside = ends-within ps ends k x.sound.checks h;
+      next = rw add-one refl;
+    }
 
 -- the last check ends with the run
 pub start_last : (ps ends : List ℕ) → AllBelow (SoundCheck ps ends) (length ends) → 1 ≤ length ends → start ends (length ends) ≡ length ps
@@ -37,7 +55,7 @@ module _ (rule : Meaning) (ps ends ds : List ℕ) (totals sent : List ℤ) (soun
 
   length_by : (k : ℕ) → k < length ends → length (sent_by rule ps ends ds totals sent k) ≡ end ends k - start ends k
   length_by k h =
-      length-answers rule (get_or ds k 0) _ ∙ length-heard rule.known totals (check_in ps ends k) _
+      length_answers rule (get_or ds k 0) _ ∙ length_heard rule.known totals (check_in ps ends k) _
       ∙ length-between ps (start ends k) (end ends k) (ends-within ps ends k sound h)
 
   pub length_up_to : (k : ℕ) → k ≤ length ends → length (sent_up_to rule ps ends ds totals sent k) ≡ start ends k
@@ -66,7 +84,8 @@ module _ {X : Type 0} (f : X → ℤ) (now : List X) (done last : List ℤ) (a :
       ∙ rw (front, map-append f part (drop (e - a) (drop a now)), rest) (sym (append_assoc done (map f part) (drop e last)))
 
 -- what holds of every element holds after a part is put
-pub all_put : {X : Type 0} (P : X → Type 0) (a k : ℕ) (now part : List X) → AllByRecursion P now → AllByRecursion P part → AllByRecursion P (put_mid a k now part)
+pub all_put : {X : Type 0} (P : X → Type 0) (a k : ℕ) (now part : List X) → AllByRecursion P now → AllByRecursion P part → AllByRecursion P
+    (put_mid a k now part)
 all_put P a k now part all new =
     All-append P (take a now) (part ++ drop k (drop a now)) (All-take P a now all)
     (All-append P part (drop k (drop a now)) new (All-drop P k (drop a now) (All-drop P a now all)))

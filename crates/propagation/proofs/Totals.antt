@@ -1,17 +1,18 @@
 -- Totals, entry after entry, and how large they grow.
-use Rattle.std.proofs.Common.{◌≡◌, ℕ, zero, suc, ◌+◌, ◌*◌, ◌<◌, ◌≤◌, Bool, true, false, cond, eqb, ◌≢◌, List, [], ◌∷◌, map, length, get_or, take, set, ℤ, pos, ◌+ℤ◌, nat_abs, sym, refl, ap, ◌∙◌, ⊎_elim, mul-le-mul_right, add-mul, add-one, arith}
+use Rattle.std.proofs.Common.{◌≡◌, ℕ, zero, suc, ◌+◌, ◌*◌, ◌<◌, ◌≤◌, true, false, cond, eqb, ◌≢◌, List, [], ◌∷◌, map, length, get_or, take, set, ℤ}
+use Rattle.std.proofs.Common.{pos, ◌+ℤ◌, nat_abs, sym, refl, ap, ◌∙◌, ⊎_elim, add-one, arith}
 use lib.IntN.{+ℤ_assoc, +ℤ_idl, +ℤ_idr}
 use Rattle.std.specs.List.{AllByRecursion}
 use Rattle.std.proofs.lemmas.List.FromFn.{fill_by_all}
-use Rattle.std.proofs.ByRecursion.{All-take, All-map, All-weaker, All-get_or, all_from_every}
+use Rattle.std.proofs.ByRecursion.{All-map, All-weaker, All-get_or, all_from_every}
 use Rattle.std.proofs.lemmas.List.{get_or-set_same, get_or-set_other, get_or-map, length-map, take_all}
-use Rattle.std.proofs.lemmas.List.Sums.{sum_by-cons, sum_by-take-le}
 use Rattle.std.proofs.lemmas.Bool.{cases_eq, eq-eqb, ne_eqb, cond-true}
 use Rattle.codes.specs.Admission.{degree}
 use Rattle.codes.specs.Places.{AllBelow}
+use Rattle.check_rules.specs.Meaning.{Meaning, SoundMeaning}
 use Rattle.propagation.specs.Passes.{sent_to, totals_of}
-use Rattle.propagation.specs.Within.{Fine, Within}
-use Rattle.propagation.proofs.Sizes.{nat_abs_add}
+use Rattle.propagation.specs.Within.{Fine, Within, WithinTotals}
+use Rattle.propagation.specs.Bounds.{totalled_size}
 
 pub sent_more : (i : ℕ) (ps : List ℕ) (ss : List ℤ) (j : ℕ)
     → j < length ps
@@ -23,20 +24,6 @@ sent_more i (p ∷ ps) (s ∷ ss) zero h l = +ℤ_idr (cond (eqb p i) s (pos 0))
 sent_more i (p ∷ ps) (s ∷ ss) (suc j) h l =
     ap (λ z. cond (eqb p i) s (pos 0) +ℤ z) (sent_more i ps ss j (omega arith) (omega arith))
     ∙ sym (+ℤ_assoc (cond (eqb p i) s (pos 0)) (sent_to i (take j ps) (take j ss)) (cond (eqb (get_or ps j 0) i) (get_or ss j (pos 0)) (pos 0)))
-
-pub sent-size : (k i : ℕ) (ps : List ℕ) (ss : List ℤ) → AllByRecursion (λ s. nat_abs s ≤ k) ss → nat_abs (sent_to i ps ss) ≤ degree ps i * k
-sent-size k i [] ss all = omega arith
-sent-size k i (p ∷ ps) [] all = omega arith
-sent-size k i (p ∷ ps) (s ∷ ss) (here, all) =
-    let rest = sent-size k i ps ss all in
-    let parts = nat_abs_add (cond (eqb p i) s (pos 0)) (sent_to i ps ss) in
-    let more : degree (p ∷ ps) i * k ≡ cond (eqb p i) 1 0 * k + degree ps i * k =
-    ap (λ n. n * k) (sum_by-cons (λ x. cond (eqb x i) 1 0) p ps) ∙ add-mul (cond (eqb p i) 1 0) (degree ps i) k in
-    omega (arith, rest, parts, more, one (eqb p i))
-  where
-    one : (t : Bool) → nat_abs (cond t s (pos 0)) ≤ cond t 1 0 * k
-    one true = omega (arith, here)
-    one false = omega arith
 
 -- each total is its prior plus what the first j entries sent to it
 abbrev pub TotalledUpTo : List ℤ → List ℕ → List ℤ → List ℤ → ℕ → Type 0
@@ -88,19 +75,6 @@ module _ (priors : List ℤ) (ps : List ℕ) (ss : List ℤ) where
       ap (λ z. z +ℤ s) (inv p near) ∙ +ℤ_assoc (get_or priors p (pos 0)) (sent_to p (take j ps) (take j ss)) s
       ∙ ap (λ z. get_or priors p (pos 0) +ℤ z) (sym more)
 
-  -- within 17 times the largest belief
-  pub totalled_size : (k j i : ℕ)
-      → AllByRecursion (λ z. nat_abs z ≤ k) ss
-      → nat_abs (get_or priors i (pos 0)) ≤ k
-      → degree ps i ≤ 16
-      → nat_abs (get_or priors i (pos 0) +ℤ sent_to i (take j ps) (take j ss)) ≤ 17 * k
-  totalled_size k j i all low few =
-      let parts = nat_abs_add (get_or priors i (pos 0)) (sent_to i (take j ps) (take j ss)) in
-      let sum = sent-size k i (take j ps) (take j ss) (All-take (λ z. nat_abs z ≤ k) j ss all) in
-      let fewer : degree (take j ps) i ≤ 16 = omega (arith, sum_by-take-le (λ x. cond (eqb x i) 1 0) ps j) in
-      let most : degree (take j ps) i * k ≤ 16 * k = mul-le-mul_right k fewer in
-      omega (arith, parts, sum, most, low)
-
   pub totalled_all : (totals : List ℤ)
       → length totals ≡ length priors
       → length ps ≡ length ss
@@ -108,27 +82,27 @@ module _ (priors : List ℤ) (ps : List ℕ) (ss : List ℤ) where
       → totals ≡ totals_of priors ps ss
   unfolding totals_of
   totalled_all totals long same inv =
-      let whole-ps : take (length ps) ps ≡ ps = take_all (length ps) ps (omega arith) in
-      let whole-ss : take (length ps) ss ≡ ss = take_all (length ps) ss (omega arith) in
+      let whole_ps : take (length ps) ps ≡ ps = take_all (length ps) ps (omega arith) in
+      let whole_ss : take (length ps) ss ≡ ss = take_all (length ps) ss (omega arith) in
       fill_by_all (λ i. get_or priors i (pos 0) +ℤ sent_to i ps ss) totals (length priors) (pos 0) long
-      (λ i h. rw (whole-ps, whole-ss) at (inv i h))
+      (λ i h. rw (whole_ps, whole_ss) at (inv i h))
 
 -- magnitudes of fine beliefs
-pub fine-sizes : {X : Type 0} (exact : X → Type 0) (eighths : X → ℤ) (k : ℕ) (xs : List X)
+pub fine_sizes : {X : Type 0} (exact : X → Type 0) (eighths : X → ℤ) (k : ℕ) (xs : List X)
     → Within exact eighths k xs
     → AllByRecursion (λ z. nat_abs z ≤ k) (map eighths xs)
-fine-sizes exact eighths k xs fine =
+fine_sizes exact eighths k xs fine =
     All-map (λ z. nat_abs z ≤ k) eighths xs (All-weaker (Fine exact eighths k) (λ x. nat_abs (eighths x) ≤ k) (λ x h. h.1) xs fine)
 
-pub prior-size : {X : Type 0} (exact : X → Type 0) (eighths : X → ℤ) (k : ℕ) (xs : List X) (i : ℕ)
+pub prior_size : {X : Type 0} (exact : X → Type 0) (eighths : X → ℤ) (k : ℕ) (xs : List X) (i : ℕ)
     → i < length xs
     → Within exact eighths k xs
     → nat_abs (get_or (map eighths xs) i (pos 0)) ≤ k
-prior-size exact eighths k xs i h fine =
-    All-get_or (λ z. nat_abs z ≤ k) (map eighths xs) i (pos 0) (rw (length-map xs eighths) h) (fine-sizes exact eighths k xs fine)
+prior_size exact eighths k xs i h fine =
+    All-get_or (λ z. nat_abs z ≤ k) (map eighths xs) i (pos 0) (rw (length-map xs eighths) h) (fine_sizes exact eighths k xs fine)
 
 -- totals of fine beliefs are fine
-pub totals-fine : {X : Type 0} (exact : X → Type 0) (eighths : X → ℤ) (k j : ℕ) (priors totals : List X) (ps : List ℕ) (sent : List X)
+pub totals_fine : {X : Type 0} (exact : X → Type 0) (eighths : X → ℤ) (k j : ℕ) (priors totals : List X) (ps : List ℕ) (sent : List X)
     → length totals ≡ length priors
     → AllBelow (λ i. degree ps i ≤ 16) (length priors)
     → Within exact eighths k priors
@@ -136,13 +110,21 @@ pub totals-fine : {X : Type 0} (exact : X → Type 0) (eighths : X → ℤ) (k j
     → AllByRecursion exact totals
     → TotalledUpTo (map eighths priors) ps (map eighths sent) (map eighths totals) j
     → Within exact eighths (17 * k) totals
-totals-fine exact eighths k j priors totals ps sent long few low fine whole inv =
+totals_fine exact eighths k j priors totals ps sent long few low fine whole inv =
     all_from_every (Fine exact eighths (17 * k)) totals
     (λ i d from h.
     let near : i < length priors = omega arith in
     let value = sym (get_or-map eighths totals i d (pos 0) h) ∙ inv i (rw (length-map priors eighths) near) in (
       All-get_or exact totals i d h whole,
       rw value
-          (totalled_size (map eighths priors) ps (map eighths sent) k j i (fine-sizes exact eighths k sent fine)
-          (prior-size exact eighths k priors i near low) (few i near)),
+          (totalled_size (map eighths priors) ps (map eighths sent) k j i (fine_sizes exact eighths k sent fine)
+          (prior_size exact eighths k priors i near low) (few i near)),
     ))
+
+-- no total passes what a confidence can be
+pub totals_small : {X : Type 0} (exact : X → Type 0) (eighths : X → ℤ) (rule : Meaning) (xs : List X)
+    → SoundMeaning rule
+    → WithinTotals exact eighths rule xs
+    → Within exact eighths (17 * 4095) xs
+totals_small exact eighths rule xs sound low =
+    All-weaker (Fine exact eighths (17 * rule.known)) (Fine exact eighths (17 * 4095)) (λ x h. (h.0, omega (arith, h.1, sound.known_high))) xs low

@@ -1,17 +1,20 @@
 -- Belief propagation, from a question to its answer.
 use Rattle.std.specs.Prelude.{ℕ, zero, suc, ◌+◌, min, max, Bool, cond, List, map, length, replicate, ℤ, pos, unsigned_abs}
-use Rattle.codes.specs.Code.{Code, checks}
+use Rattle.codes.specs.Code.{checks}
 use Rattle.codes.specs.Tells.{sign_bit}
 use Rattle.check_rules.specs.Meaning.{Meaning}
 use Rattle.decoders.specs.Decoding.{Rule, Room}
 use Rattle.decoders.specs.Fit.{pattern_fits}
-use Rattle.decoders.specs.Question.{Question, Answer, bit_of}
-use Rattle.decoders.specs.declared.state.State.{State}
+use Rattle.decoders.specs.Question.{Question, Answer}
 use Rattle.propagation.specs.Passes.{priors, sent_up_to, totals_of}
 
 pub record Beliefs : Type 0 where
   pub totals : List ℤ
   pub sent : List ℤ
+
+-- what lent numbers stand for
+abbrev pub beliefs_of : {X : Type 0} → (X → ℤ) → List X → List X → Beliefs
+beliefs_of eighths totals sent = record { totals = map eighths totals; sent = map eighths sent }
 
 -- totals start at the priors, sent beliefs at 0
 unfoldable pub begun : Meaning → Question → Beliefs
@@ -66,7 +69,3 @@ propagated rule limit q = answer_from (course rule q (iterations rule limit q)).
 -- a word for each position and for each entry
 abbrev pub propagation_room : Room
 propagation_room n m entries = n + entries
-
--- the question that runs of just the right lengths ask
-abbrev pub asking : Code → List ℕ → List State → ℕ → Question
-asking code difference states class = record { code = code; difference = map bit_of difference; states = states; class = class }

@@ -3,3 +3,4 @@ pub mod Check
 pub mod Passes
 pub mod Course
 pub mod Promises
+pub mod Bounds

@@ -1,10 +1,9 @@
 #![tactic(auto)]
 
 // Belief propagation over any check rule.
+mod answer;
 mod check;
 mod course;
 mod decoder;
-mod fit;
-mod passes;
 
 pub use decoder::Propagation;

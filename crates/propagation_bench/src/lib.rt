@@ -2,49 +2,33 @@
 
 // What the benchmark, a C program, calls through propagation_bench_c: one question asked many times, by the offset rule or by tables.
 use check_rules::{OffsetRule, TableRule};
-use codes::Matrix;
-use decoders::{Decoder, State};
+use codes::{MOST_POSITIONS, Matrix};
+use decoders::{Decoder, Inquiry, State};
 use propagation::Propagation;
 use std::alloc::Global;
 
-const MOST_POSITIONS: usize = 2048;
-
-// Asks a decoder the same question so many times, every position raw; false where it is refused.
-fn ask_often<D: Decoder>(
-    decoder: &mut D,
-    matrix: &Matrix,
-    difference: &[u8],
-    q: u8,
+// Asks the same question so many times; none where it is refused.
+fn ask_often<D: Decoder + Drop>(
+    mut decoder: D,
+    inquiry: &Inquiry<'_>,
     times: u32,
     pattern: &mut [u8],
     confidence: &mut [u32],
     work: &mut [i32],
-) -> bool {
-    let states = [State::Raw; MOST_POSITIONS];
+) -> Option<()> {
     for _ in 0..times {
-        if decoder
-            .decode(matrix, difference, &states, q, pattern, confidence, work)
-            .is_err()
-        {
-            return false;
-        }
+        decoder.decode(inquiry, pattern, confidence, work).ok()?;
     }
-    true
+    Some(())
 }
 
 fn matrix_of(heap: Global, n: usize, m: usize, positions: &[u16], ends: &[u16]) -> Option<Matrix> {
-    let Ok(positions) = positions.to_vec(heap) else {
-        return None;
-    };
-    let Ok(ends) = ends.to_vec(heap) else {
-        return None;
-    };
-    match Matrix::admit(1, n, m, positions, ends) {
-        Ok(matrix) => Some(matrix),
-        Err(_) => None,
-    }
+    let positions = positions.to_vec(heap).ok()?;
+    let ends = ends.to_vec(heap).ok()?;
+    Matrix::admit(1, n, m, positions, ends).ok()
 }
 
+// Stays: a parameter for each of C's, and a bool, as C calls it.
 pub fn propagate_by_offset(
     heap: Global,
     n: usize,
@@ -62,22 +46,21 @@ pub fn propagate_by_offset(
     let Some(matrix) = matrix_of(heap, n, m, positions, ends) else {
         return false;
     };
-    let mut decoder = Propagation {
+    let decoder = Propagation {
         rule: OffsetRule,
         limit,
     };
-    ask_often(
-        &mut decoder,
-        &matrix,
+    let states = [State::Raw; MOST_POSITIONS];
+    let inquiry = Inquiry {
+        matrix: &matrix,
         difference,
+        states: &states,
         q,
-        times,
-        pattern,
-        confidence,
-        work,
-    )
+    };
+    ask_often(decoder, &inquiry, times, pattern, confidence, work).is_some()
 }
 
+// Stays: the same, as C calls it.
 pub fn propagate_by_tables<'a>(
     heap: Global,
     n: usize,
@@ -101,15 +84,13 @@ pub fn propagate_by_tables<'a>(
     let Ok(rule) = TableRule::admit(f2a, a2f, raw) else {
         return false;
     };
-    let mut decoder = Propagation { rule, limit };
-    ask_often(
-        &mut decoder,
-        &matrix,
+    let decoder = Propagation { rule, limit };
+    let states = [State::Raw; MOST_POSITIONS];
+    let inquiry = Inquiry {
+        matrix: &matrix,
         difference,
+        states: &states,
         q,
-        times,
-        pattern,
-        confidence,
-        work,
-    )
+    };
+    ask_often(decoder, &inquiry, times, pattern, confidence, work).is_some()
 }

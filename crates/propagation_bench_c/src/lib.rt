@@ -1,6 +1,7 @@
 #![tactic(auto)]
 
 // What the benchmark's C links: the two functions under their C names.
+// Stays: they stand here again, as what C links is a crate of its own.
 use std::alloc::Global;
 
 #[unsafe(no_mangle)]

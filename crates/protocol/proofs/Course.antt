@@ -1,19 +1,20 @@
 -- The one course of a block: from its plan, matrix and both keys, what is disclosed in each round and what each turn decides.
-use Rattle.std.proofs.Common.{◌≡◌, ℕ, zero, suc, ◌+◌, ◌-◌, ◌%◌, ◌<◌, ◌≤◌, Bool, true, false, cond, not, eqb, List, map, length, get_or, replicate, sum, sym, refl, ap, ◌∙◌, ⊎_elim, add-one, arith}
+use Rattle.std.proofs.Common.{rules, ◌≡◌, ℕ, zero, suc, ◌+◌, ◌-◌, ◌<◌, ◌≤◌, Bool, true, false, cond, not, eqb, List, map, length, get_or, replicate, sum, sym, refl, ap, ◌∙◌, ⊎_elim, add-one, arith}
+use Rattle.std.proofs.lemmas.Grind.{common_steps}
 use Rattle.std.proofs.lemmas.List.{length-replicate, get_or-replicate, get_or_past}
 use Rattle.std.proofs.lemmas.List.FromFn.{length-map-range_with_len, get_or-map-range_with_len}
 use Rattle.std.proofs.lemmas.Bool.{cases_lt, cases_eq, cases_Bool, eqb-true, eqb-false, eq-eqb, ne_eqb, and_parts, both_ways}
 use Rattle.codes.specs.Code.{Code}
 use Rattle.codes.specs.Syndrome.{syndrome}
 use Rattle.decoders.specs.Question.{Question}
-use Rattle.decoders.specs.Fit.{pattern_fits, all_below, is_known}
+use Rattle.decoders.specs.Fit.{is_known}
 use Rattle.decoders.specs.Decoding.{Rule}
-use Rattle.decoders.specs.declared.state.State.TheVariants.{Raw, Punctured, Known0, Known1}
+use Rattle.decoders.specs.declared.state.State.TheVariants.{Raw}
 use Rattle.frames.specs.Writing.{map_of, in_round}
 use Rattle.frames.proofs.Gathered.{length-map_of, sum-map_of_more, map_of-none}
 use Rattle.protocol.specs.Counting.{tally, list_of}
 use Rattle.protocol.specs.Plan.{has_kind}
-use Rattle.protocol.specs.Asking.{state_at, question_of, known_at, unknown_at, chosen, Verdict, settled, clashed, spent, named, Judgement, share, judge_known, judge_answer, judged}
+use Rattle.protocol.specs.Asking.{state_at, question_of, known_at, unknown_at, chosen, Verdict, settled, clashed, spent, named, Judgement, share, judged}
 use Rattle.protocol.specs.Turning.{marked}
 use Rattle.protocol.specs.Reading.{is_naming}
 use Rattle.protocol.specs.Guarantee.{Block}
@@ -36,13 +37,7 @@ get_or-map_of test n i h = get_or-map-range_with_len (λ k. cond (test k) 1 0) 0
 
 -- a map's one stands for a place that passes
 pub map_of_one : (test : ℕ → Bool) (n i : ℕ) → get_or (map_of test n) i 0 ≡ 1 → (i < n) × (test i ≡ true)
-map_of_one test n i e =
-    ⊎_elim (λ h. (h, go (test i) (sym (get_or-map_of test n i h) ∙ e)))
-    (λ past. let z = get_or_past (map_of test n) i 0 (rw (length-map_of test n) past) in absurd (omega arith)) (cases_lt i n)
-  where
-    go : (t : Bool) → ◌≡◌ {A = ℕ} (cond t 1 0) 1 → t ≡ true
-    go true e = refl
-    go false e = absurd (omega arith)
+map_of_one test n i e = grind (arith, common_steps, get_or-map_of, get_or_past, length-map_of, cases_lt)
 
 pub map_of-there : (test : ℕ → Bool) (n i : ℕ) → i < n → test i ≡ true → get_or (map_of test n) i 0 ≡ 1
 map_of-there test n i h e = get_or-map_of test n i h ∙ rw e
@@ -50,8 +45,7 @@ map_of-there test n i h e = get_or-map_of test n i h ∙ rw e
 pub marked_at : (r : ℕ) (map rounds : List ℕ) (i : ℕ) → i < length rounds
     → get_or (marked r map rounds) i 0 ≡ cond (eqb (get_or map i 0) 1) r (get_or rounds i 0)
 unfolding list_of
-marked_at r map rounds i h =
-    get_or-map-range_with_len (λ k. cond (eqb (get_or map k 0) 1) r (get_or rounds k 0)) 0 (length rounds) i i 0 h (omega arith)
+marked_at r map rounds i h = grind (arith, common_steps, get_or-map-range_with_len, get_or)
 
 pub marked-length : (r : ℕ) (map rounds : List ℕ) → length (marked r map rounds) ≡ length rounds
 unfolding list_of
@@ -60,15 +54,7 @@ marked-length r map rounds = length-map-range_with_len (λ k. cond (eqb (get_or 
 -- a disclosed position is known
 state_known : (kinds rounds ours theirs : List ℕ) (i : ℕ) → (get_or rounds i 0 ≡ 0 → ⊥)
     → is_known (state_at kinds rounds ours theirs i) ≡ true
-state_known kinds rounds ours theirs i ne =
-    go (has_kind 2 kinds i) (eqb (get_or rounds i 0) 0) refl (eqb ((get_or ours i 0 + get_or theirs i 0) % 2) 0)
-  where
-    go : (s t : Bool) → eqb (get_or rounds i 0) 0 ≡ t → (b : Bool)
-        → is_known (cond s Known0 (cond t (cond (has_kind 1 kinds i) Punctured Raw) (cond b Known0 Known1))) ≡ true
-    go true t e b = refl
-    go false true e b = absurd (ne (eqb-true (get_or rounds i 0) 0 e))
-    go false false e true = refl
-    go false false e false = refl
+state_known kinds rounds ours theirs i ne = grind (arith, common_steps, get_or, eqb-true)
 
 pub question_state : (code : Code) (class : ℕ) (kinds rounds sa sb ka kb : List ℕ) (i : ℕ) → i < code.width
     → get_or (question_of code class kinds rounds sa sb ka kb).states i Raw ≡ state_at kinds rounds ka kb i
@@ -80,24 +66,7 @@ question_state code class kinds rounds sa sb ka kb i h =
 pub judged-names : (rule : Rule) (step left : ℕ) (q : Question) (map : List ℕ) → (judged rule step left q).verdict ≡ named map
     → (map ≡ map_of (chosen q (rule q).confidence (share step left q)) q.code.width) × (1 ≤ share step left q)
 unfolding judged
-judged-names rule step left q m = go (all_below (known_at q) q.code.width)
-  where
-    never : (f : Bool) → cond f settled clashed ≡ named m → ⊥
-    never true e = let z : ◌≡◌ {A = ℕ} 0 1 = cc in omega arith
-    never false e = let z : ◌≡◌ {A = ℕ} 0 1 = cc in omega arith
-
-    answered : (g z : Bool) (x : List ℕ) → eqb (share step left q) 0 ≡ z → cond g settled (cond z spent (named x)) ≡ named m
-        → (m ≡ x) × (1 ≤ share step left q)
-    answered true z x e is = let c : ◌≡◌ {A = ℕ} 0 1 = cc in absurd (omega arith)
-    answered false true x e is = let c : ◌≡◌ {A = ℕ} 0 1 = cc in absurd (omega arith)
-    answered false false x e is = (cc, omega (arith, eqb-false (share step left q) 0 e))
-
-    go : (t : Bool) → (cond t (judge_known q) (judge_answer q (rule q) step left)).verdict ≡ named m
-        → (m ≡ map_of (chosen q (rule q).confidence (share step left q)) q.code.width) × (1 ≤ share step left q)
-    go true is = absurd (never (pattern_fits q _) is)
-    go false is =
-        answered (pattern_fits q (rule q).pattern) (eqb (share step left q) 0)
-        (map_of (chosen q (rule q).confidence (share step left q)) q.code.width) refl is
+judged-names rule step left q m = grind (arith, common_steps, eqb-false)
 
 pub sum-map_of : (test : ℕ → Bool) (n : ℕ) → sum (map_of test n) ≡ tally test n
 unfolding tally
@@ -106,6 +75,11 @@ sum-map_of test (suc n) =
     let more : sum (map_of test (suc n)) ≡ sum (map_of test n) + cond (test n) 1 0 = rw (← add-one) (sum-map_of_more test n) in
     more ∙ ap (λ k. k + cond (test n) 1 0) (sum-map_of test n)
 
+-- exactly k of the positions that are not known are chosen, where there are so many
+chosen-count : (q : Question) (confidence : List ℕ) (k : ℕ) → k ≤ tally (unknown_at q) q.code.width
+    → tally (chosen q confidence k) q.code.width ≡ k
+chosen-count q confidence k l = search (rules, least_sure)
+
 -- a turn that names, names exactly its share
 pub judged-share : (rule : Rule) (step left : ℕ) (q : Question) (m : List ℕ) → (judged rule step left q).verdict ≡ named m
     → sum m ≡ share step left q
@@ -113,12 +87,10 @@ judged-share rule step left q m e =
     let is = judged-names rule step left q m e in
     let k = share step left q in
     ap sum is.0 ∙ sum-map_of (chosen q (rule q).confidence k) q.code.width
-    ∙ least_sure (rule q).confidence q.code.width (unknown_at q) k (omega arith)
+    ∙ chosen-count q (rule q).confidence k (omega arith)
 
 pub zero_at : (n i : ℕ) → get_or {A = ℕ} (replicate n 0) i 0 ≡ 0
-zero_at n i =
-    ⊎_elim (λ l. get_or-replicate {A = ℕ} n i 0 0 l)
-    (λ past. get_or_past (replicate n 0) i 0 (rw (length-replicate {A = ℕ} n 0) past)) (cases_lt i n)
+zero_at n i = grind (arith, common_steps, get_or-replicate, get_or_past, length-replicate, cases_lt)
 
 -- whether a position is disclosed
 abbrev pub is_out : List ℕ → ℕ → Bool
@@ -232,84 +204,30 @@ module _ (rule : Rule) (block : Block) where
   -- how many are disclosed is what is counted
   pub count_is : (r : ℕ) → (course r).count ≡ tally (is_out (course r).rounds) block.code.width
   unfolding course
-  count_is zero =
-      sym (tally-none (is_out (replicate block.code.width 0)) block.code.width (λ i l. ap (λ x. not (eqb x 0)) (zero_at block.code.width i)))
-  count_is (suc r) = go (verdict_at r) refl (count_is r)
-    where
-      go : (v : Verdict) → verdict_at r ≡ v → (course r).count ≡ tally (is_out (course r).rounds) block.code.width
-          → (advanced (suc r) (course r) v).count ≡ tally (is_out (advanced (suc r) (course r) v).rounds) block.code.width
-      go settled e ih = ih
-      go clashed e ih = ih
-      go spent e ih = ih
-      go (named m) e ih = ap (λ x. x + sum m) ih ∙ sym (advanced_out r m e)
+  count_is zero = grind (arith, common_steps, tally-none, zero_at)
+  count_is (suc r) = grind (arith, common_steps, count_is r, advanced_out)
 
   pub count-cap : (r : ℕ) → (course r).count ≤ block.plan.cap
   unfolding course
   count-cap zero = omega arith
-  count-cap (suc r) = go (verdict_at r) refl (count-cap r)
-    where
-      go : (v : Verdict) → verdict_at r ≡ v → (course r).count ≤ block.plan.cap → (advanced (suc r) (course r) v).count ≤ block.plan.cap
-      go settled e ih = ih
-      go clashed e ih = ih
-      go spent e ih = ih
-      go (named m) e ih = omega (arith, (share_is r m e).0)
+  count-cap (suc r) = grind (arith, common_steps, count-cap r, share_is)
 
   -- each round that names adds a position
   pub round-count : (r : ℕ) → ((j : ℕ) → j < r → is_naming (verdict_at j) ≡ true) → r ≤ (course r).count
   unfolding course
   round-count zero h = omega arith
-  round-count (suc r) h = go (verdict_at r) refl (h r (omega arith)) (round-count r (λ j l. h j (omega arith)))
-    where
-      go : (v : Verdict) → verdict_at r ≡ v → is_naming v ≡ true → r ≤ (course r).count → suc r ≤ (advanced (suc r) (course r) v).count
-      go settled e no_way ih = absurd (both_ways false refl no_way)
-      go clashed e no_way ih = absurd (both_ways false refl no_way)
-      go spent e no_way ih = absurd (both_ways false refl no_way)
-      go (named m) e yes_way ih = omega (arith, (share_is r m e).1)
+  round-count (suc r) h = grind (arith, common_steps, round-count r (λ j l. h j (omega arith)), both_ways, share_is)
 
   -- no position is disclosed in a later round
   pub course-bound : (r i : ℕ) → get_or (course r).rounds i 0 ≤ r
   unfolding course
   course-bound zero i = omega (arith, zero_at block.code.width i)
-  course-bound (suc r) i = go (verdict_at r) (course-bound r i)
-    where
-      go : (v : Verdict) → get_or (course r).rounds i 0 ≤ r → get_or (advanced (suc r) (course r) v).rounds i 0 ≤ suc r
-      go settled ih = omega arith
-      go clashed ih = omega arith
-      go spent ih = omega arith
-      go (named m) ih =
-          ⊎_elim
-          (λ l. let at = marked_at (suc r) m (course r).rounds i l in rw at (pick (eqb (get_or m i 0) 1) ih))
-          (λ past. let z = get_or_past (marked (suc r) m (course r).rounds) i 0 (rw (marked-length (suc r) m (course r).rounds) past) in omega arith)
-          (cases_lt i (length (course r).rounds))
-        where
-          pick : (t : Bool) → get_or (course r).rounds i 0 ≤ r → cond t (suc r) (get_or (course r).rounds i 0) ≤ suc r
-          pick true ih = omega arith
-          pick false ih = omega arith
+  course-bound (suc r) i = grind (arith, common_steps, course-bound r i, get_or, marked_at, get_or_past, marked-length, cases_lt)
 
   -- the positions of a round stay those of the round
   next_round : (r j i : ℕ) → j < r → in_round (suc j) (course (suc r)).rounds i ≡ in_round (suc j) (course r).rounds i
   unfolding course
-  next_round r j i l = go (verdict_at r) refl
-    where
-      go : (v : Verdict) → verdict_at r ≡ v
-          → in_round (suc j) (advanced (suc r) (course r) v).rounds i ≡ in_round (suc j) (course r).rounds i
-      go settled e = refl
-      go clashed e = refl
-      go spent e = refl
-      go (named m) e =
-          ⊎_elim
-          (λ h. ap (λ x. eqb x (suc j)) (marked_at (suc r) m (course r).rounds i h) ∙ pick (eqb (get_or m i 0) 1) refl)
-          (λ past.
-          let a = get_or_past (marked (suc r) m (course r).rounds) i 0 (rw (marked-length (suc r) m (course r).rounds) past) in
-          let b = get_or_past (course r).rounds i 0 past in
-          rw (a, b))
-          (cases_lt i (length (course r).rounds))
-        where
-          pick : (t : Bool) → eqb (get_or m i 0) 1 ≡ t → eqb (cond t (suc r) (get_or (course r).rounds i 0)) (suc j) ≡ eqb (get_or (course r).rounds i 0) (suc j)
-          pick true one =
-              let z = (names-new r m e i (eqb-true (get_or m i 0) 1 one)).1 in
-              ne_eqb (suc r) (suc j) (λ x. omega (arith, x, l)) ∙ sym (ap (λ x. eqb x (suc j)) z ∙ ne_eqb 0 (suc j) (λ x. omega (arith, x)))
-          pick false none = refl
+  next_round r j i l = grind (arith, common_steps, marked_at, get_or, get_or_past, marked-length, cases_lt, names-new, eqb-true, ne_eqb)
 
   pub same-round : (d j i : ℕ) → in_round (suc j) (course (d + suc j)).rounds i ≡ in_round (suc j) (course (suc j)).rounds i
   same-round zero j i = ap (λ x. in_round (suc j) (course x).rounds i) (omega arith)

@@ -1,28 +1,23 @@
 -- Hiding, over every run: the ends of a block with a companion word added make the same run.
-use Rattle.std.proofs.Common.{◌≡◌, ℕ, ◌+◌, Bool, true, false, cond, not, ◌&&◌, eqb, ltb, List, [], ◌∷◌, map, length, get_or, replicate, Some, None, Ok, Err, Option, Result, sym, refl, ap, ◌∙◌, subst, ⊎_elim, arith}
+use Rattle.std.proofs.Common.{◌≡◌, ℕ, Bool, true, false, cond, not, List, [], ◌∷◌, map, length, get_or, replicate, Some, None, Option, sym, refl, ap, ◌∙◌, ⊎_elim, arith}
+use Rattle.std.proofs.lemmas.Grind.{common_steps}
 use Rattle.std.proofs.lemmas.List.{length-replicate, get_or-replicate, get_or_past}
 use Rattle.std.proofs.lemmas.List.FromFn.{length-map-range_with_len, get_or-map-range_with_len}
 use Rattle.std.proofs.lemmas.Bool.{and_from, cases_lt, or_cases, or_left, or_right, eqb-true, eq-eqb, both_ways}
 use Rattle.codes.specs.Code.{Code, checks}
 use Rattle.codes.specs.Syndrome.{IsKey, syndrome, added}
 use Rattle.decoders.specs.Decoding.{Rule, Room}
-use Rattle.frames.specs.Shape.{FrameShape, syndrome_frame, disclosure_frame}
-use Rattle.frames.specs.Format.{frame_bytes}
-use Rattle.frames.specs.Reading.{read_shape}
-use Rattle.frames.specs.Writing.{gathered, in_round, laid, map_of}
-use Rattle.frames.specs.declared.refusal.Refusal.{Refusal}
-use Rattle.protocol.specs.Counting.{same, list_of}
+use Rattle.protocol.specs.Counting.{list_of}
 use Rattle.protocol.specs.Plan.{Plan, has_kind, plan_fits, wrong_key}
-use Rattle.protocol.specs.State.{State, Held, idle, opened, begun, frame_of, agreed_bit, raw_bits, is_open, is_settled}
+use Rattle.protocol.specs.State.{State, Held, idle, opened, begun, raw_bits, is_open}
 use Rattle.protocol.specs.Asking.{Verdict, settled, clashed, spent, named}
 use Rattle.protocol.specs.Calls.{Call, Done, Reply, open_call, say_call, hear_call, turn_call, key_call, close_call, refused, no_memory, begins, says, hears, turns, writes, closes}
-use Rattle.protocol.specs.Hearing.{hear_done, hear_read, heard_syndrome, heard_values, awaits, foreign, stays}
-use Rattle.protocol.specs.Turning.{turn_done, taken, after, concluded, disclosing, judged_now, is_matrix, roomy, marked}
+use Rattle.protocol.specs.Hearing.{hear_done, heard_syndrome, heard_values, stays}
+use Rattle.protocol.specs.Turning.{turn_done, taken, after, concluded, disclosing, judged_now, is_matrix, roomy}
 use Rattle.protocol.specs.Steps.{step_of, open_done, say_done, key_done, still_open}
 use Rattle.protocol.specs.Runs.{Ask, Event, held_after, log_of}
-use Rattle.protocol.specs.Reading.{Among, here, there, event, named_map, verdict_map, names, names_at, discloses, is_begin}
+use Rattle.protocol.specs.Reading.{Among, here, there, event, named_map, verdict_map, names, is_begin}
 use Rattle.protocol.specs.Guarantee.{Block, Premises, is_public, Companion, of_block, shift_key, shift_call, shift_ask, shift_reply, shift_event, Hiding}
-use Rattle.protocol.specs.declared.terms.Hearing.TheVariants.{Fresh, Repeat}
 use Rattle.protocol.proofs.Shift.{shift_state, Veiled, say_shift, hear_shift, turn_shift, key_shift}
 use Rattle.protocol.proofs.Opening.{FitKey, fit_key, key_fits, open_begins, begun_shift, shifted_fits, fit_plan}
 
@@ -48,85 +43,20 @@ same_state s = record { kinds = refl; key = refl; rounds = refl }
 
 module _ (n : ℕ) (kinds word : List ℕ) (s : State) (v : Veiled n kinds word s) where
   kept_veil : (t : State) → Kept s t → Veiled n kinds word t
-  kept_veil t k =
-      record {
-        kinds_are = k.kinds ∙ v.kinds_are;
-        kinds_long = v.kinds_long;
-        key = rw k.key v.key;
-        rounds_long = ap length k.rounds ∙ v.rounds_long;
-        zeros = λ i h. v.zeros i (λ z. h (ap (λ xs. get_or xs i 0) k.rounds ∙ z));
-      }
+  kept_veil t k = grind (arith, common_steps, get_or)
 
 -- saying, hearing and writing the key keep an end's kinds, key and rounds
 say_keeps : (s : State) (r : ℕ) (buffer : List ℕ) → Kept s (say_done s r buffer).held
 unfolding say_done
-say_keeps s r buffer = go (ltb s.stage.round r) (ltb (length buffer) (length (frame_bytes (frame_of s r))))
-  where
-    go : (t u : Bool)
-        → Kept s
-        (cond t (stays s (refused 11 0))
-        (cond u (stays s (refused 12 (length (frame_bytes (frame_of s r)))))
-        (stays s (says (frame_bytes (frame_of s r)) (laid (frame_bytes (frame_of s r)) buffer))))
-        ).held
-    go true u = same_state s
-    go false true = same_state s
-    go false false = same_state s
+say_keeps s r buffer = grind (arith, common_steps, same_state)
 
 hear_keeps : (s : State) (bytes : List ℕ) → Kept s (hear_done s bytes).held
 unfolding hear_done heard_syndrome heard_values
-hear_keeps s bytes = read (read_shape s.terms.width s.terms.checks bytes)
-  where
-    syndrome_go : (bits : List ℕ) (t u w : Bool)
-        → Kept s
-        (cond t (stays s (refused 14 0))
-        (cond u (record { held = heard_syndrome s bits; reply = hears Fresh })
-        (cond w (stays s (hears Repeat)) (stays s (refused 16 0))))
-        ).held
-    syndrome_go bits true u w = same_state s
-    syndrome_go bits false true w = record { kinds = refl; key = refl; rounds = refl }
-    syndrome_go bits false false true = same_state s
-    syndrome_go bits false false false = same_state s
-
-    values_go : (r : ℕ) (values : List ℕ) (t a m u w : Bool)
-        → Kept s
-        (cond t (stays s (refused 14 0))
-        (cond a (stays s (refused 15 0))
-        (cond m
-        (cond u (record { held = heard_values s r values; reply = hears Fresh })
-        (cond w (stays s (hears Repeat)) (stays s (refused 16 r))))
-        (stays s (refused 16 r))))
-        ).held
-    values_go r values true a m u w = same_state s
-    values_go r values false true m u w = same_state s
-    values_go r values false false false u w = same_state s
-    values_go r values false false true true w = record { kinds = refl; key = refl; rounds = refl }
-    values_go r values false false true false true = same_state s
-    values_go r values false false true false false = same_state s
-
-    read : (x : Result FrameShape Refusal) → Kept s (hear_read s x).held
-    read (Ok (syndrome_frame side block bits)) =
-        syndrome_go bits (foreign s side block) (awaits s 0) (same bits s.their_syndrome)
-    read (Ok (disclosure_frame side block r map values)) =
-        values_go r values (foreign s side block) (ltb s.stage.round r)
-        (same map (map_of (in_round r s.rounds) (length s.rounds))) (awaits s r)
-        (same values (gathered (in_round r s.rounds) (λ i. get_or s.their_bits i 0) (length s.rounds)))
-    read (Err fault) = same_state s
+hear_keeps s bytes = grind (arith, common_steps, same_state, get_or)
 
 key_keeps : (s : State) (buffer : List ℕ) → Kept s (key_done s buffer).held
 unfolding key_done
-key_keeps s buffer =
-    go (is_settled s.stage.outcome) (ltb (length buffer) (length (raw_bits s.kinds (agreed_bit s))))
-  where
-    go : (t u : Bool)
-        → Kept s
-        (cond t
-        (cond u (stays s (refused 12 (length (raw_bits s.kinds (agreed_bit s)))))
-        (stays s (writes (laid (raw_bits s.kinds (agreed_bit s)) buffer))))
-        (stays s (refused 21 0))
-        ).held
-    go false u = same_state s
-    go true true = same_state s
-    go true false = same_state s
+key_keeps s buffer = grind (arith, common_steps, same_state)
 
 module _ (n : ℕ) (kinds word : List ℕ) (s : State) (v : Veiled n kinds word s) where
   -- a turn marks what it names, and there the word is 0
@@ -137,31 +67,7 @@ module _ (n : ℕ) (kinds word : List ℕ) (s : State) (v : Veiled n kinds word 
   after_veil settled pattern h = kept_veil n kinds word s v _ (record { kinds = refl; key = refl; rounds = refl })
   after_veil clashed pattern h = kept_veil n kinds word s v _ (record { kinds = refl; key = refl; rounds = refl })
   after_veil spent pattern h = kept_veil n kinds word s v _ (record { kinds = refl; key = refl; rounds = refl })
-  after_veil (named map) pattern h =
-      record {
-        kinds_are = v.kinds_are;
-        kinds_long = v.kinds_long;
-        key = v.key;
-        rounds_long = long ∙ v.rounds_long;
-        zeros = zeros;
-      }
-    where
-      long : length (marked (s.stage.round + 1) map s.rounds) ≡ length s.rounds
-      long = length-map-range_with_len _ 0 (length s.rounds)
-
-      zeros : (i : ℕ) → (get_or (marked (s.stage.round + 1) map s.rounds) i 0 ≡ 0 → ⊥) → get_or word i 0 ≡ 0
-      zeros i ne =
-          ⊎_elim
-          (λ l. go (eqb (get_or map i 0) 1) refl (get_or-map-range_with_len _ 0 (length s.rounds) i i 0 l (omega arith)))
-          (λ past. absurd (ne (get_or_past (marked (s.stage.round + 1) map s.rounds) i 0 (omega (arith, long, past)))))
-          (cases_lt i (length s.rounds))
-        where
-          go : (t : Bool) → eqb (get_or map i 0) 1 ≡ t
-              → get_or (marked (s.stage.round + 1) map s.rounds) i 0
-              ≡ cond (eqb (get_or map i 0) 1) (s.stage.round + 1) (get_or s.rounds i 0)
-              → get_or word i 0 ≡ 0
-          go true e is = h i (eqb-true (get_or map i 0) 1 e)
-          go false e is = v.zeros i (λ z. ne (is ∙ rw e z))
+  after_veil (named map) pattern h = grind (arith, common_steps, length-map-range_with_len, get_or, get_or-map-range_with_len, get_or_past, cases_lt, eqb-true)
 
   turn_veil : (rule : Rule) (code : Code) (room : Room) (pattern confidence : List ℕ) (words : ℕ)
       → ((i : ℕ) → get_or (named_map (turn_done rule s code room pattern confidence words).reply) i 0 ≡ 1 → get_or word i 0 ≡ 0)
@@ -296,11 +202,7 @@ module _ (block : Block) (word : List ℕ) (bits : IsKey block.code.width word)
         go (turned_away reply quiet none keep is) = rw (is, none, is, keep raw)
 
     open_veil : HeldVeiled n kinds word (open_done p c key memory).held
-    open_veil = go (open_cases p c key memory)
-      where
-        go : Opened p c key memory → HeldVeiled n kinds word (open_done p c key memory).held
-        go (taken_up e fit m is) = let w = with (ap (λ d. d.reply) is) in rw is (begun_veil p c key w.0 w.1 e fit)
-        go (turned_away reply quiet none keep is) = rw is tt
+    open_veil = grind (arith, common_steps, open_cases, begun_veil)
 
 -- a reply whose map names a position is a turn's that names
 names_it : (r : Reply) (i : ℕ) → get_or (named_map r) i 0 ≡ 1 → names r ≡ true
@@ -318,33 +220,15 @@ names_it (closes block side raw leak outcome) i e = absurd (omega arith)
 
 -- what is public stays public
 still_public : (block : Block) (e : Event) (log : List Event) (i : ℕ) → is_public block log i ≡ true → is_public block (e ∷ log) i ≡ true
-still_public block e log i p =
-    ⊎_elim (λ a. or_left (discloses block.alice i (e ∷ log)) _ (or_right _ (discloses block.alice i log) a))
-    (λ b. or_right (discloses block.alice i (e ∷ log)) _ (or_right _ (discloses block.bob i log) b))
-    (or_cases (discloses block.alice i log) (discloses block.bob i log) p)
+still_public block e log i p = grind (arith, common_steps, or_left, or_right, or_cases)
 
 companion_before : (block : Block) (e : Event) (log : List Event) (word : List ℕ) → Companion block (e ∷ log) word → Companion block log word
-companion_before block e log word c =
-    record {
-      bits = c.bits;
-      evenly = c.evenly;
-      shortened = c.shortened;
-      public = λ i p. c.public i (still_public block e log i p);
-    }
+companion_before block e log word c = grind (arith, common_steps, still_public)
 
 -- what a turn of the block names is public
 named-public : (block : Block) (e : Event) (log : List Event) (i : ℕ)
     → of_block block e.handle ≡ true → get_or (named_map e.reply) i 0 ≡ 1 → is_public block (e ∷ log) i ≡ true
-named-public block e log i own one =
-    ⊎_elim
-    (λ a. or_left (discloses block.alice i (e ∷ log)) _ (or_left _ (discloses block.alice i log) (at block.alice a)))
-    (λ b. or_right (discloses block.alice i (e ∷ log)) _ (or_left _ (discloses block.bob i log) (at block.bob b)))
-    (or_cases (eqb e.handle block.alice) (eqb e.handle block.bob) own)
-  where
-    at : (h : ℕ) → eqb e.handle h ≡ true → (names_at h e && eqb (get_or (named_map e.reply) i 0) 1) ≡ true
-    at h same-handle =
-        and_from (names_at h e) _ (and_from (eqb e.handle h) (names e.reply) same-handle (names_it e.reply i one))
-        (eq-eqb (get_or (named_map e.reply) i 0) 1 one)
+named-public block e log i own one = grind (arith, common_steps, or_left, or_right, or_cases, get_or, and_from, names_it, one, eq-eqb)
 
 module _ (rule : Rule) (block : Block) (word : List ℕ) where
   abbrev raw_word : List ℕ
@@ -433,28 +317,7 @@ module _ (rule : Rule) (block : Block) (word : List ℕ) where
     held_of false = refl
 
     hiding-step : Shifted (a ∷ asks)
-    hiding-step =
-        record {
-          logs =
-              let r = ap (λ d. d.reply) shifted_step ∙ reply_of (of_block block a.handle) in
-              let l = before.logs in
-              cc;
-          helds = λ h. helds_go h (eqb a.handle h) refl;
-          veils = λ h own. veils_go h own (eqb a.handle h) refl;
-        }
-      where
-        helds_go : (h : ℕ) (t : Bool) → eqb a.handle h ≡ t
-            → held_after rule (map (shift_ask block word) (log_of rule (a ∷ asks))) h ≡ shift_at h (held_after rule (a ∷ asks) h)
-        helds_go h true e =
-            rw e
-            (ap (λ d. d.held) shifted_step ∙ held_of (of_block block a.handle)
-            ∙ ap (λ x. cond (of_block block x) (shift_held word done.held) done.held) (eqb-true a.handle h e))
-        helds_go h false e = rw e (before.helds h)
-
-        veils_go : (h : ℕ) → of_block block h ≡ true → (t : Bool) → eqb a.handle h ≡ t
-            → HeldVeiled block.code.width block.plan.kinds word (held_after rule (a ∷ asks) h)
-        veils_go h own true e = rw e (own-step (subst (λ x. of_block block x ≡ true) (sym (eqb-true a.handle h e)) own)).1
-        veils_go h own false e = rw e (before.veils h own)
+    hiding-step = grind (arith, common_steps, shifted_step, reply_of, held_of, eqb-true, own-step)
 
   hiding-run : (asks : List Ask) → Opens (log_of rule asks) → Companion block (log_of rule asks) word → Shifted asks
   hiding-run [] opens comp =
@@ -469,17 +332,4 @@ module _ (rule : Rule) (block : Block) (word : List ℕ) where
 
 -- the premises say with what the ends of a block open
 pub hidden : (rule : Rule) (block : Block) (asks : List Ask) → Premises block (log_of rule asks) → Hiding rule block (log_of rule asks)
-hidden rule block asks premises word comp = (hiding-run rule block word asks opens comp).logs
-  where
-    opens : Opens rule block word (log_of rule asks)
-    opens h p c k memory own among =
-        ⊎_elim
-        (λ a.
-        let is = eqb-true h block.alice a in
-        let w = premises.alice_opens p c k memory (subst (λ x. Among (event x (open_call p c k memory) begins) (log_of rule asks)) is among) in
-        (ap (λ x. x.kinds) w.0, w.1))
-        (λ b.
-        let is = eqb-true h block.bob b in
-        let w = premises.bob_opens p c k memory (subst (λ x. Among (event x (open_call p c k memory) begins) (log_of rule asks)) is among) in
-        (ap (λ x. x.kinds) w.0, w.1))
-        (or_cases (eqb h block.alice) (eqb h block.bob) own)
+hidden rule block asks premises word comp = grind (arith, common_steps, hiding-run, eqb-true, or_cases)

@@ -1,5 +1,6 @@
 -- Hearing a frame of the course leaves an end on the course, and hearing anything else changes nothing.
-use Rattle.std.proofs.Common.{◌≡◌, ℕ, zero, suc, Bool, true, false, cond, not, eqb, ltb, ◌⊎◌, List, length, get_or, Ok, Err, Result, sym, refl, ap, ◌∙◌, subst, inl, inr, ⊎_elim, arith}
+use Rattle.std.proofs.Common.{◌≡◌, ℕ, zero, suc, Bool, true, false, cond, ltb, ◌⊎◌, List, length, get_or, Ok, Err, Result, sym, refl, ap, ◌∙◌, inl, inr, ⊎_elim, arith}
+use Rattle.std.proofs.lemmas.Grind.{common_steps}
 use Rattle.std.proofs.lemmas.Bool.{cases_Bool, eqb-true, and_parts, both_ways, not-true}
 use Rattle.codes.specs.Code.{checks}
 use Rattle.codes.specs.Syndrome.{syndrome}
@@ -9,7 +10,7 @@ use Rattle.frames.specs.Shape.{FrameShape, syndrome_frame, disclosure_frame}
 use Rattle.frames.specs.Format.{frame_bytes}
 use Rattle.frames.specs.Reading.{read_shape}
 use Rattle.frames.specs.Writing.{map_of, gathered, in_round}
-use Rattle.frames.specs.declared.refusal.Refusal.{Refusal}
+use Rattle.frames.specs.declared.refusal.FrameRefusal.{FrameRefusal}
 use Rattle.protocol.specs.Counting.{same}
 use Rattle.protocol.specs.State.{State, is_open}
 use Rattle.protocol.specs.Calls.{Done, refused, hears}
@@ -29,7 +30,7 @@ pub data Heeds (s : State) (d : Done State) : Type 0 where
   accepts : (what : Hearing) → d.reply ≡ hears what → Heeds s d
   ignores : d.held ≡ s → Silent d.reply → Heeds s d
 
-heed : (s : State) (x : Result FrameShape Refusal) → Heeds s (hear_read s x)
+heed : (s : State) (x : Result FrameShape FrameRefusal) → Heeds s (hear_read s x)
 heed s (Err fault) = ignores refl tt
 heed s (Ok (syndrome_frame side block bits)) =
     go (foreign s side block) (awaits s 0) (same bits s.their_syndrome)
@@ -81,13 +82,10 @@ module _ (rule : Rule) (block : Block) (seat other : Seat) (s : State) (f : Foll
 
   -- an end that awaits a frame has not finished
   still_open : s.stage.heard ≡ false → is_open s.stage.outcome ≡ true
-  still_open unheard =
-      ⊎_elim (λ e. e) (λ e. absurd (both_ways s.stage.heard unheard (f.ended e).0)) (cases_Bool (is_open s.stage.outcome))
+  still_open unheard = grind (arith, common_steps, both_ways, cases_Bool)
 
   awaited : (r : ℕ) → awaits s r ≡ true → (r ≡ s.stage.round) × (s.stage.heard ≡ false)
-  awaited r e =
-      let p = and_parts (eqb r s.stage.round) (not s.stage.heard) e in
-      (eqb-true r s.stage.round p.0, not-true s.stage.heard p.1)
+  awaited r e = grind (arith, common_steps, and_parts, eqb-true, not-true)
 
   values_on : (r : ℕ) → suc r ≡ s.stage.round → s.stage.heard ≡ false
       → Follows rule block seat
@@ -95,7 +93,7 @@ module _ (rule : Rule) (block : Block) (seat other : Seat) (s : State) (f : Foll
       (gathered (in_round (suc r) (course rule block (suc r)).rounds) (λ i. bit_of (get_or other.own i 0))
       (length (course rule block (suc r)).rounds)))
   values_on r is unheard =
-      let same-rounds : (course rule block (suc r)).rounds ≡ s.rounds = ap (λ x. (course rule block x).rounds) is ∙ sym f.rounds in
+      let same-rounds : (course rule block (suc r)).rounds ≡ s.rounds = ap (λ x. (course rule block x).rounds) is ∙ sym f.on.rounds_are in
       let ours = values_follows rule block seat s f (rw (← whose) fit) (still_open unheard) (omega arith) in
       rw (same-rounds, is, whose) ours
 
@@ -165,9 +163,4 @@ module _ (rule : Rule) (block : Block) (seat other : Seat) (s : State) (f : Foll
       → read_shape block.code.width (checks block.code) (frame_bytes (course_frame rule block other r)) ≡ Ok (course_frame rule block other r)
       → Listened rule block seat s (hear_done s (frame_bytes (course_frame rule block other r))).held r
   unfolding hear_done
-  hear-course r reads =
-      let bytes = frame_bytes (course_frame rule block other r) in
-      let here : read_shape s.terms.width s.terms.checks bytes ≡ Ok (course_frame rule block other r) =
-      ap (λ x. read_shape x s.terms.checks bytes) (ap (λ t. t.width) f.terms)
-      ∙ ap (λ x. read_shape block.code.width x bytes) (ap (λ t. t.checks) f.terms) ∙ reads in
-      subst (λ x. Listened rule block seat s (hear_read s x).held r) (sym here) (listen r)
+  hear-course r reads = grind (arith, common_steps, course_frame, listen)

@@ -1,5 +1,6 @@
 -- Each call of an end that follows the course leaves it following.
 use Rattle.std.proofs.Common.{◌≡◌, ℕ, suc, ◌+◌, ◌<◌, ◌≤◌, Bool, true, false, cond, eqb, List, length, get_or, sum, sym, refl, ap, ◌∙◌, inl, ⊎_elim, arith}
+use Rattle.std.proofs.lemmas.Grind.{common_steps}
 use Rattle.std.proofs.lemmas.List.{length-replicate, get_or_past}
 use Rattle.std.proofs.lemmas.List.FromFn.{length-map-range_with_len, get_or-map-range_with_len}
 use Rattle.std.proofs.lemmas.Bool.{cases_lt, cases_eq, eqb-false, both_ways}
@@ -27,22 +28,7 @@ module _ (rule : Rule) (block : Block) (seat : Seat) where
       → FitKey block.code.width block.plan.kinds seat.own
       → Follows rule block seat (begun (with_side seat.side block.plan) block.code seat.own)
   unfolding begun course
-  begun-follows fits key =
-      record {
-        fits = fits;
-        key_fits = key;
-        terms = refl;
-        kinds = refl;
-        key = refl;
-        own_syndrome = refl;
-        rounds = refl;
-        count = refl;
-        earlier = λ j l. absurd (omega arith);
-        their_syndrome = λ h. absurd (⊎_elim (λ l. omega (arith, l)) (λ e. both_ways false refl e.1) h);
-        their_length = length-replicate {A = ℕ} block.code.width 0;
-        their_bits = λ i ne h. absurd (ne (zero_at block.code.width i));
-        ended = λ e. absurd (both_ways true e refl);
-      }
+  begun-follows fits key = grind (arith, common_steps, both_ways, length-replicate, zero_at)
 
   module _ (s : State) (f : Follows rule block seat s) where
     -- a finish
@@ -50,37 +36,15 @@ module _ (rule : Rule) (block : Block) (seat : Seat) where
         → Concludes outcome (verdict_at rule block s.stage.round)
         → Follows rule block seat (concluded s outcome (judged_at rule block (course rule block s.stage.round)).pattern)
     unfolding concluded
-    concluded-follows outcome heard c =
-        record {
-          fits = f.fits;
-          key_fits = f.key_fits;
-          terms = f.terms;
-          kinds = f.kinds;
-          key = f.key;
-          own_syndrome = f.own_syndrome;
-          rounds = f.rounds;
-          count = f.count;
-          earlier = f.earlier;
-          their_syndrome = f.their_syndrome;
-          their_length = f.their_length;
-          their_bits = f.their_bits;
-          ended = λ e. (heard, c, refl);
-        }
+    concluded-follows outcome heard c = grind (arith, common_steps)
 
     pub disclosing-follows : SeatOf block seat → (m pattern : List ℕ) → s.stage.heard ≡ true
         → verdict_at rule block s.stage.round ≡ named m → Follows rule block seat (disclosing s m pattern)
     unfolding disclosing
     disclosing-follows of m pattern heard e =
         record {
-          fits = f.fits;
-          key_fits = f.key_fits;
-          terms = f.terms;
-          kinds = f.kinds;
-          key = f.key;
-          own_syndrome = f.own_syndrome;
-          rounds = rounds;
-          count = count;
-          earlier = earlier;
+          began = f.began;
+          on = record { rounds_are = rounds; count_is = count; earlier = earlier };
           their_syndrome = λ h. heard-syndrome rule block seat of s f heard;
           their_length = f.their_length;
           their_bits = bits;
@@ -91,19 +55,15 @@ module _ (rule : Rule) (block : Block) (seat : Seat) where
         k = omega arith
 
         rounds : marked (s.stage.round + 1) m s.rounds ≡ (course rule block (s.stage.round + 1)).rounds
-        rounds =
-            ap (λ x. marked x m s.rounds) k ∙ ap (marked (suc s.stage.round) m) f.rounds
-            ∙ sym (ap (λ p. p.rounds) (course_next rule block s.stage.round m e)) ∙ sym (ap (λ x. (course rule block x).rounds) k)
+        rounds = grind (arith, common_steps, k, course_next, course)
 
         count : s.stage.named + sum m ≡ (course rule block (s.stage.round + 1)).count
         count =
-            ap (λ x. x + sum m) f.count ∙ sym (ap (λ p. p.count) (course_next rule block s.stage.round m e))
+            ap (λ x. x + sum m) f.on.count_is ∙ sym (ap (λ p. p.count) (course_next rule block s.stage.round m e))
             ∙ sym (ap (λ x. (course rule block x).count) k)
 
         earlier : (j : ℕ) → j < s.stage.round + 1 → is_naming (verdict_at rule block j) ≡ true
-        earlier j l =
-            ⊎_elim (λ same. ap (λ x. is_naming (verdict_at rule block x)) same ∙ ap is_naming e) (λ ne. f.earlier j (omega arith))
-            (cases_eq j s.stage.round)
+        earlier j l = grind (arith, common_steps, verdict_at, cases_eq)
 
         bits : (i : ℕ) → (get_or (marked (s.stage.round + 1) m s.rounds) i 0 ≡ 0 → ⊥)
             → Heard (disclosing s m pattern) (get_or (marked (s.stage.round + 1) m s.rounds) i 0)
@@ -137,44 +97,21 @@ module _ (rule : Rule) (block : Block) (seat : Seat) where
     pub syndrome-follows : s.stage.round ≡ 0 → is_open s.stage.outcome ≡ true
         → Follows rule block seat (heard_syndrome s (syndrome block.code seat.other))
     unfolding heard_syndrome
-    syndrome-follows zero-round ongoing =
-        record {
-          fits = f.fits;
-          key_fits = f.key_fits;
-          terms = f.terms;
-          kinds = f.kinds;
-          key = f.key;
-          own_syndrome = f.own_syndrome;
-          rounds = f.rounds;
-          count = f.count;
-          earlier = f.earlier;
-          their_syndrome = λ h. refl;
-          their_length = f.their_length;
-          their_bits =
-              λ i ne h.
-              let bound : get_or s.rounds i 0 ≤ s.stage.round = rw f.rounds (course-bound rule block s.stage.round i) in
-              absurd (ne (omega (arith, bound, zero-round)));
-          ended = λ e. absurd (both_ways (is_open s.stage.outcome) e ongoing);
-        }
+    syndrome-follows zero-round ongoing = grind (arith, common_steps, get_or, course-bound, both_ways)
 
     -- or its bits at the positions of the round
+    abbrev their_values : List ℕ
+    their_values = gathered (in_round s.stage.round s.rounds) (λ i. bit_of (get_or seat.other i 0)) (length s.rounds)
+
     pub values_follows : FitKey block.code.width block.plan.kinds seat.other → is_open s.stage.outcome ≡ true
         → 1 ≤ s.stage.round
         → Follows rule block seat
-        (heard_values s s.stage.round
-        (gathered (in_round s.stage.round s.rounds) (λ i. bit_of (get_or seat.other i 0)) (length s.rounds)))
+        (heard_values s s.stage.round their_values)
     unfolding heard_values spread list_of
     values_follows other ongoing later =
         record {
-          fits = f.fits;
-          key_fits = f.key_fits;
-          terms = f.terms;
-          kinds = f.kinds;
-          key = f.key;
-          own_syndrome = f.own_syndrome;
-          rounds = f.rounds;
-          count = f.count;
-          earlier = f.earlier;
+          began = f.began;
+          on = f.on;
           their_syndrome = λ h. f.their_syndrome (inl (omega (arith, later)));
           their_length = length-map-range_with_len _ 0 (length s.their_bits) ∙ f.their_length;
           their_bits = bits;
@@ -182,13 +119,13 @@ module _ (rule : Rule) (block : Block) (seat : Seat) where
         }
       where
         bits : (i : ℕ) → (get_or s.rounds i 0 ≡ 0 → ⊥)
-            → Heard (heard_values s s.stage.round (gathered (in_round s.stage.round s.rounds) (λ i. bit_of (get_or seat.other i 0)) (length s.rounds))) (get_or s.rounds i 0)
-            → get_or (spread (in_round s.stage.round s.rounds) (gathered (in_round s.stage.round s.rounds) (λ i. bit_of (get_or seat.other i 0)) (length s.rounds)) s.their_bits) i 0
+            → Heard (heard_values s s.stage.round their_values) (get_or s.rounds i 0)
+            → get_or (spread (in_round s.stage.round s.rounds) their_values s.their_bits) i 0
             ≡ get_or seat.other i 0
         bits i ne h =
             ⊎_elim
             (λ l.
-            let width : length s.rounds ≡ block.code.width = ap length f.rounds ∙ course-length rule block s.stage.round in
+            let width : length s.rounds ≡ block.code.width = ap length f.on.rounds_are ∙ course-length rule block s.stage.round in
             let m : i < length s.their_bits = omega (arith, width, f.their_length) in
             get_or-map-range_with_len _ 0 (length s.their_bits) i i 0 m (omega arith)
             ∙ go l width (in_round s.stage.round s.rounds i) refl)
@@ -196,11 +133,7 @@ module _ (rule : Rule) (block : Block) (seat : Seat) where
             (cases_lt i (length s.rounds))
           where
             go : i < length s.rounds → length s.rounds ≡ block.code.width → (t : Bool) → in_round s.stage.round s.rounds i ≡ t
-                → cond t (get_or (gathered (in_round s.stage.round s.rounds) (λ i. bit_of (get_or seat.other i 0)) (length s.rounds)) (tally (in_round s.stage.round s.rounds) i) 0) (get_or s.their_bits i 0)
+                → cond t (get_or their_values (tally (in_round s.stage.round s.rounds) i) 0) (get_or s.their_bits i 0)
                 ≡ get_or seat.other i 0
-            go l width true e =
-                gathered_at (in_round s.stage.round s.rounds) (λ i. bit_of (get_or seat.other i 0)) (length s.rounds) i l e
-                ∙ omega (arith, other.is_key.bits i (omega arith))
-            go l width false e =
-                let bound : get_or s.rounds i 0 ≤ s.stage.round = rw f.rounds (course-bound rule block s.stage.round i) in
-                f.their_bits i ne (inl (omega (arith, bound, eqb-false (get_or s.rounds i 0) s.stage.round e)))
+            go l width true e = grind (arith, common_steps, gathered_at, get_or)
+            go l width false e = grind (arith, common_steps, get_or, course-bound, eqb-false)

@@ -1,43 +1,40 @@
 -- The guarantee.
-use Rattle.std.proofs.Common.{◌≡◌, ℕ, zero, suc, ◌+◌, ◌-◌, ◌%◌, ◌<◌, ◌≤◌, max, true, false, not, ◌&&◌, eqb, List, [], ◌∷◌, length, get_or, take, Some, None, Ok, Option, sym, refl, ap, ◌∙◌, subst, inl, inr, ⊎_elim, arith}
+use Rattle.std.proofs.Common.{◌≡◌, ℕ, zero, suc, ◌+◌, ◌-◌, ◌%◌, ◌<◌, ◌≤◌, true, false, not, ◌&&◌, eqb, List, [], ◌∷◌, length, get_or, take, Ok, sym, refl, ap, ◌∙◌, subst, ⊎_elim, arith}
+use Rattle.std.proofs.lemmas.Grind.{common_steps}
 use Rattle.std.proofs.lemmas.List.{take_at}
 use Rattle.std.proofs.lemmas.Bool.{cases_lt, cases_eq, cases_Bool, eqb-true, eq-eqb, ne_eqb, and_parts, and_from, or_cases, or_left, or_right, both_ways, not_from_false}
 use Rattle.codes.specs.Code.{checks}
 use Rattle.codes.specs.Syndrome.{syndrome}
 use Rattle.decoders.specs.Decoding.{Rule, Formed}
-use Rattle.ledger.specs.declared.line.Outcome.TheVariants.{Settled}
 use Rattle.frames.specs.Shape.{FrameShape}
 use Rattle.frames.specs.Format.{frame_bytes}
-use Rattle.frames.specs.Reading.{read_shape, outcome, frame_in, first_wrong, right_byte, frame_length, map_in}
+use Rattle.frames.specs.Reading.{read_shape, outcome, frame_in, map_in}
 use Rattle.frames.specs.Writing.{map_of, in_round, laid}
-use Rattle.protocol.specs.Plan.{with_side, has_kind, plan_fits, count_kind}
-use Rattle.protocol.specs.State.{State, Held, idle, opened, is_open, raw_bits, leak_of}
+use Rattle.protocol.specs.Plan.{with_side, has_kind, plan_fits}
+use Rattle.protocol.specs.State.{Held, idle, opened, raw_bits}
 use Rattle.protocol.specs.Asking.{Verdict, settled, clashed, spent, named}
 use Rattle.protocol.specs.Calls.{Call, Reply, open_call, say_call, hear_call, turn_call, key_call, close_call, refused, no_memory, begins, says, hears, turns, writes, closes}
-use Rattle.protocol.specs.Turning.{turn_done}
-use Rattle.protocol.specs.Hearing.{hear_done}
 use Rattle.protocol.specs.Runs.{Ask, Event, held_after, log_of}
 use Rattle.protocol.specs.Reading.{Among, here, there, event, verdict_map, is_naming, reached, disclosed_in, discloses, carries, says_map, wrote, Wrote}
-use Rattle.protocol.specs.Guarantee.{Block, Premises, is_public, SettledWith, corrected, Agreement, carried, account, Account, Guaranteed}
+use Rattle.protocol.specs.Guarantee.{Block, Premises, is_public, SettledWith, corrected, Agreement, carried, Account, Guaranteed}
 use Rattle.protocol.proofs.Opening.{FitKey, fit_plan}
 use Rattle.protocol.proofs.Words.{added-within, gathered_cong}
 use Rattle.protocol.proofs.Ranks.{tally_cong}
 use Rattle.protocol.proofs.Course.{course, judged_at, verdict_at, course_next, course-length, course-bound, marked_at, names-new, round-stays, still_out, count_is, is_out, map_of_one, map_of-there}
 use Rattle.protocol.proofs.CourseFrames.{course_frame, course-read}
-use Rattle.protocol.proofs.Follow.{Seat, alice_seat, bob_seat, Concludes}
+use Rattle.protocol.proofs.Follow.{Seat, alice_seat, bob_seat}
 use Rattle.protocol.proofs.Settled.{pattern-length, disclosed-bit, meets-syndrome}
-use Rattle.protocol.proofs.Track.{HeldOn, Stands, Track, agreed_at}
+use Rattle.protocol.proofs.Track.{Track, agreed_at}
 use Rattle.protocol.proofs.Together.{Both, together}
-use Rattle.protocol.specs.Steps.{step_of, key_done}
-use Rattle.protocol.proofs.Hiding.{hidden, Silent, Opened, taken_up, turned_away, open_cases}
-use Rattle.protocol.proofs.Listen.{Heeds, accepts, ignores, hear_heeds}
-use Rattle.protocol.proofs.Tracking.{Turned, not_turned, is_turned, turn_cases, Keyed, not_keyed, is_keyed, key_cases}
+use Rattle.protocol.specs.Steps.{step_of}
+use Rattle.protocol.proofs.Hiding.{hidden, open_cases}
+use Rattle.protocol.proofs.Listen.{hear_heeds}
+use Rattle.protocol.proofs.Tracking.{turn_cases, key_cases}
 
 -- nobody passes a round that settles
 stops_at : (rule : Rule) (block : Block) (r k : ℕ) → verdict_at rule block r ≡ settled
     → ((j : ℕ) → j < k → is_naming (verdict_at rule block j) ≡ true) → k ≤ r
-stops_at rule block r k e h =
-    ⊎_elim (λ l. absurd (both_ways false refl (sym (ap is_naming e) ∙ h r l))) (λ ge. ge) (cases_lt r k)
+stops_at rule block r k e h = grind (arith, common_steps, both_ways, cases_lt)
 
 -- a position that a round names is disclosed from then on
 named_out : (rule : Rule) (block : Block) (j r i : ℕ) → j < r → is_naming (verdict_at rule block j) ≡ true
@@ -151,11 +148,7 @@ module _ (rule : Rule) (formed : Formed rule) (block : Block) (asks : List Ask) 
 -- what a frame of the course carries
 read_ok : (n m : ℕ) (bytes : List ℕ) (shape : FrameShape) → read_shape n m bytes ≡ Ok shape → frame_in n m bytes ≡ shape
 unfolding read_shape
-read_ok n m bytes shape = go (first_wrong (right_byte n m bytes) (max (length bytes) (frame_length n m bytes)))
-  where
-    go : (x : Option ℕ) → outcome (frame_in n m bytes) x ≡ Ok shape → frame_in n m bytes ≡ shape
-    go None e = cc
-    go (Some i) e = let z : ◌≡◌ {A = ℕ} 0 1 = cc in absurd (omega arith)
+read_ok n m bytes shape = grind (arith, common_steps)
 
 -- a frame that an end wrote is found in the list, and the other way round
 wrote_from : (h n i : ℕ) (bytes : List ℕ) (log : List Event) → Wrote h bytes log → carries n bytes i ≡ true → wrote h n i log ≡ true
@@ -180,32 +173,16 @@ says_it n i (closes number side raw leak outcome) e = absurd (both_ways false re
 says-call : (rule : Rule) (x : Held) (call : Call) (bytes buffer : List ℕ) → (step_of rule x call).reply ≡ says bytes buffer
     → (r : ℕ) × (b : List ℕ) × (call ≡ say_call r b)
 says-call rule x (say_call r b) bytes buffer e = (r, b, refl)
-says-call rule idle (open_call p c k m) bytes buffer e = go (open_cases p c k m)
-  where
-    go : Opened p c k m → (r : ℕ) × (b : List ℕ) × (open_call p c k m ≡ say_call r b)
-    go (taken_up fits fit mem is) = let a = ap (λ d. d.reply) is in let z : ◌≡◌ {A = ℕ} 0 1 = cc in absurd (omega arith)
-    go (turned_away reply quiet none keep is) = absurd (subst Silent (sym (ap (λ d. d.reply) is) ∙ e) quiet)
-says-call rule idle (hear_call bs) bytes buffer e = let z : ◌≡◌ {A = ℕ} 0 1 = cc in absurd (omega arith)
-says-call rule idle (turn_call c room p f w) bytes buffer e = let z : ◌≡◌ {A = ℕ} 0 1 = cc in absurd (omega arith)
-says-call rule idle (key_call b) bytes buffer e = let z : ◌≡◌ {A = ℕ} 0 1 = cc in absurd (omega arith)
-says-call rule idle close_call bytes buffer e = let z : ◌≡◌ {A = ℕ} 0 1 = cc in absurd (omega arith)
-says-call rule (opened s) (open_call p c k m) bytes buffer e = let z : ◌≡◌ {A = ℕ} 0 1 = cc in absurd (omega arith)
-says-call rule (opened s) (hear_call bs) bytes buffer e = go (hear_heeds s bs)
-  where
-    go : Heeds s (hear_done s bs) → (r : ℕ) × (b : List ℕ) × (hear_call bs ≡ say_call r b)
-    go (ignores same_state quiet) = absurd (subst Silent e quiet)
-    go (accepts what is) = let z : ◌≡◌ {A = ℕ} 0 1 = cc in absurd (omega arith)
-says-call rule (opened s) (turn_call c room p f w) bytes buffer e = go (turn_cases rule s c room p f w)
-  where
-    go : Turned rule s c p f (turn_done rule s c room p f w) → (r : ℕ) × (b : List ℕ) × (turn_call c room p f w ≡ say_call r b)
-    go (not_turned same_state quiet) = absurd (subst Silent e quiet)
-    go (is_turned ongoing heard is) = let a = ap (λ d. d.reply) is in let z : ◌≡◌ {A = ℕ} 0 1 = cc in absurd (omega arith)
-says-call rule (opened s) (key_call b) bytes buffer e = go (key_cases s b)
-  where
-    go : Keyed s b (key_done s b) → (r : ℕ) × (b' : List ℕ) × (key_call b ≡ say_call r b')
-    go (not_keyed same_state quiet) = absurd (subst Silent e quiet)
-    go (is_keyed has_settled is) = let a = ap (λ d. d.reply) is in let z : ◌≡◌ {A = ℕ} 0 1 = cc in absurd (omega arith)
-says-call rule (opened s) close_call bytes buffer e = let z : ◌≡◌ {A = ℕ} 0 1 = cc in absurd (omega arith)
+says-call rule idle (open_call p c k m) bytes buffer e = grind (arith, common_steps, open_cases)
+says-call rule idle (hear_call bs) bytes buffer e = cc
+says-call rule idle (turn_call c room p f w) bytes buffer e = cc
+says-call rule idle (key_call b) bytes buffer e = cc
+says-call rule idle close_call bytes buffer e = cc
+says-call rule (opened s) (open_call p c k m) bytes buffer e = cc
+says-call rule (opened s) (hear_call bs) bytes buffer e = grind (arith, common_steps, hear_heeds)
+says-call rule (opened s) (turn_call c room p f w) bytes buffer e = grind (arith, common_steps, turn_cases)
+says-call rule (opened s) (key_call b) bytes buffer e = grind (arith, common_steps, key_cases)
+says-call rule (opened s) close_call bytes buffer e = cc
 
 wrote-some : (rule : Rule) (h n i : ℕ) (asks : List Ask) → wrote h n i (log_of rule asks) ≡ true
     → (bytes : List ℕ) × Wrote h bytes (log_of rule asks) × (carries n bytes i ≡ true)
@@ -243,22 +220,14 @@ module _ (rule : Rule) (block : Block) (h o : ℕ) (seat other : Seat) (asks : L
       → in_round (suc j) (course rule block (suc j)).rounds i ≡ true
       → carries block.code.width (frame_bytes (course_frame rule block other (suc j))) i ≡ true
   unfolding frame_bytes
-  carries_out j i names l there-now =
-      let long : i < length (course rule block (suc j)).rounds = omega (arith, course-length rule block (suc j)) in
-      eq-eqb (get_or (map_in block.code.width (frame_bytes (course_frame rule block other (suc j)))) i 0) 1
-      (ap (λ xs. get_or xs i 0) (map_read j names)
-      ∙ map_of-there (in_round (suc j) (course rule block (suc j)).rounds) (length (course rule block (suc j)).rounds) i long there-now)
+  carries_out j i names l there-now = grind (arith, common_steps, course, course-length, eq-eqb, get_or, course_frame, map_read, map_of-there)
 
   out_carried : (j i : ℕ) → ((k : ℕ) → k < j → is_naming (verdict_at rule block k) ≡ true)
       → carries block.code.width (frame_bytes (course_frame rule block other j)) i ≡ true
       → (m : ℕ) × (j ≡ suc m) × (get_or (course rule block j).rounds i 0 ≡ j)
   unfolding frame_bytes
   out_carried zero i names e = absurd (both_ways false refl e)
-  out_carried (suc j) i names e =
-      let one : get_or (map_in block.code.width (frame_bytes (course_frame rule block other (suc j)))) i 0 ≡ 1 = eqb-true _ 1 e in
-      let at = map_of_one (in_round (suc j) (course rule block (suc j)).rounds) (length (course rule block (suc j)).rounds) i
-      (ap (λ xs. get_or xs i 0) (sym (map_read j names)) ∙ one) in
-      (j, refl, eqb-true (get_or (course rule block (suc j)).rounds i 0) (suc j) at.1)
+  out_carried (suc j) i names e = grind (arith, common_steps, get_or, course_frame, eqb-true, map_of_one, course, map_read)
 
   module _ (r : ℕ) (is-reached : r ≡ reached h (log_of rule asks)) (has_settled : verdict_at rule block r ≡ settled)
       (got : (j : ℕ) → j ≤ r → Wrote o (frame_bytes (course_frame rule block other j)) (log_of rule asks)) where
@@ -293,34 +262,10 @@ module _ (rule : Rule) (block : Block) (h o : ℕ) (seat other : Seat) (asks : L
         (cases_eq (get_or (course rule block r).rounds i 0) 0)
 
     pub counted : (course rule block r).count ≡ carried block o (log_of rule asks)
-    counted =
-        count_is rule block r
-        ∙ tally_cong (is_out (course rule block r).rounds) (λ i. wrote o block.code.width i (log_of rule asks)) block.code.width out_wrote
+    counted = grind (arith, common_steps, count_is, tally_cong, is_out, course, out_wrote)
 
   accounted : Account rule block asks h o
-  accounted = record { told = told_is; held = held_is }
-    where
-      told_is : (nb sd raw leak : ℕ) → Among (event h close_call (closes nb sd raw leak Settled)) (log_of rule asks)
-          → leak ≡ account block o (log_of rule asks)
-      told_is nb sd raw leak a =
-          let z = own.facts.closings nb sd raw leak a in
-          z.1
-          ∙ ap (λ k. (checks block.code - count_kind 1 block.plan.kinds) + k)
-          (counted (reached h (log_of rule asks)) refl z.2 z.3)
-
-      held_is : (s : State) → held_after rule asks h ≡ opened s → s.stage.outcome ≡ Settled → leak_of s ≡ account block o (log_of rule asks)
-      held_is s is_held_lem has_settled =
-          let st : Stands rule block h o seat other s (log_of rule asks) = subst (λ x. HeldOn rule block h o seat other x (log_of rule asks)) is_held_lem own.held in
-          let f = st.follows in
-          let end = f.ended (ap is_open has_settled) in
-          let checks-is = ap (λ x. x.checks) f.terms in
-          let kinds-is = f.kinds in
-          let count-is' = f.count in
-          let here : leak_of s ≡ (checks block.code - count_kind 1 block.plan.kinds) + (course rule block s.stage.round).count = cc in
-          here
-          ∙ ap (λ k. (checks block.code - count_kind 1 block.plan.kinds) + k)
-          (counted s.stage.round st.round (subst (λ x. Concludes x (verdict_at rule block s.stage.round)) has_settled end.1)
-          (λ j l. st.got j (⊎_elim (λ lt. inl lt) (λ ge. inr (omega arith, end.0)) (cases_lt j s.stage.round))))
+  accounted = grind (arith, common_steps, counted, course, verdict_at, cases_lt)
 
 pub guaranteed : Guaranteed
 guaranteed rule formed block asks p =

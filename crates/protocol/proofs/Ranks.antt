@@ -1,5 +1,6 @@
 -- Counting places, and how many places of a strict order have fewer than k before them: k.
-use Rattle.std.proofs.Common.{◌≡◌, ℕ, zero, suc, ◌+◌, ◌-◌, ◌<◌, ◌≤◌, Bool, true, false, cond, ◌&&◌, eqb, ltb, ◌⊎◌, List, get_or, sym, refl, ◌∙◌, inl, inr, ⊎_elim, arith}
+use Rattle.std.proofs.Common.{◌≡◌, ℕ, zero, suc, ◌+◌, ◌-◌, ◌<◌, ◌≤◌, Bool, true, false, cond, ◌&&◌, eqb, ltb, ◌⊎◌, List, get_or, sym, refl, ◌∙◌, ⊎_elim, arith}
+use Rattle.std.proofs.lemmas.Grind.{common_steps}
 use Rattle.std.proofs.lemmas.Bool.{cases_Bool, cases_eq, cases_order, and_parts, and_from, and_left, and_right, ltb-true, lt-ltb, le-ltb, eqb-true, eq-eqb, ne_eqb, both_ways, or_cases, or_left, or_right}
 use Rattle.protocol.specs.Counting.{tally}
 use Rattle.protocol.specs.Asking.{less_sure}
@@ -7,21 +8,12 @@ use Rattle.protocol.specs.Asking.{less_sure}
 pub tally_le : (p q : ℕ → Bool) (n : ℕ) → ((i : ℕ) → i < n → p i ≡ true → q i ≡ true) → tally p n ≤ tally q n
 unfolding tally
 tally_le p q zero h = omega arith
-tally_le p q (suc n) h =
-    let rest = tally_le p q n (λ i l. h i (omega arith)) in
-    let last : cond (p n) 1 0 ≤ cond (q n) 1 0 = go (p n) (q n) (h n (omega arith)) in
-    omega arith
-  where
-    go : (a b : Bool) → (a ≡ true → b ≡ true) → cond a 1 0 ≤ cond b 1 0
-    go true true f = omega arith
-    go true false f = absurd (both_ways false refl (f refl))
-    go false b f = omega arith
+tally_le p q (suc n) h = grind (arith, common_steps, tally_le p q n (λ i l. h i (omega arith)), both_ways)
 
 pub tally_cong : (p q : ℕ → Bool) (n : ℕ) → ((i : ℕ) → i < n → p i ≡ q i) → tally p n ≡ tally q n
 unfolding tally
 tally_cong p q zero h = refl
-tally_cong p q (suc n) h =
-    let rest = tally_cong p q n (λ i l. h i (omega arith)) in let last = h n (omega arith) in cc
+tally_cong p q (suc n) h = grind (arith, common_steps, tally_cong p q n (λ i l. h i (omega arith)))
 
 -- one more place in q than in p
 pub tally-less : (p q : ℕ → Bool) (n : ℕ) → ((i : ℕ) → i < n → p i ≡ true → q i ≡ true)
@@ -49,11 +41,7 @@ tally-less p q (suc n) h x l a b =
 pub tally-bound : (p : ℕ → Bool) (n : ℕ) → tally p n ≤ n
 unfolding tally
 tally-bound p zero = omega arith
-tally-bound p (suc n) = let rest = tally-bound p n in let last = go (p n) in omega arith
-  where
-    go : (a : Bool) → cond a 1 0 ≤ 1
-    go true = omega arith
-    go false = omega arith
+tally-bound p (suc n) = grind (arith, common_steps, tally-bound p n)
 
 pub tally-none : (p : ℕ → Bool) (n : ℕ) → ((i : ℕ) → i < n → p i ≡ false) → tally p n ≡ 0
 unfolding tally
@@ -65,8 +53,7 @@ pub tally_split : (p q r : ℕ → Bool) (n : ℕ)
     → ((i : ℕ) → i < n → cond (r i) 1 0 ≡ cond (p i) 1 0 + cond (q i) 1 0) → tally r n ≡ tally p n + tally q n
 unfolding tally
 tally_split p q r zero h = refl
-tally_split p q r (suc n) h =
-    let rest = tally_split p q r n (λ i l. h i (omega arith)) in let last = h n (omega arith) in omega arith
+tally_split p q r (suc n) h = grind (arith, common_steps, tally_split p q r n (λ i l. h i (omega arith)))
 
 -- a test that no two places pass
 pub tally-once : (p : ℕ → Bool) (n : ℕ) → ((i j : ℕ) → i < n → j < n → p i ≡ true → p j ≡ true → i ≡ j) → tally p n ≤ 1
@@ -76,11 +63,7 @@ tally-once p (suc n) h = go (p n) refl (tally-once p n (λ i j a b. h i j (omega
   where
     none : p n ≡ true → (m : ℕ) → m ≤ n → tally p m ≡ 0
     none e zero l = refl
-    none e (suc m) l =
-        let rest = none e m (omega arith) in
-        let no_other : p m ≡ false =
-        ⊎_elim (λ yes'. absurd (omega (arith, h m n (omega arith) (omega arith) yes' e))) (λ f. f) (cases_Bool (p m)) in
-        rw (rest, no_other)
+    none e (suc m) l = grind (arith, common_steps, none e m (omega arith), cases_Bool)
 
     go : (t : Bool) → p n ≡ t → tally p n ≤ 1 → tally p n + cond (p n) 1 0 ≤ 1
     go true e rest = let z = none e n (omega arith) in rw (e, z) (omega arith)
@@ -106,10 +89,7 @@ module _ (n : ℕ) (own : ℕ → Bool) (less : ℕ → ℕ → Bool)
   within k i = own i && ltb (rank i) k
 
   same_rank : (i j : ℕ) → i < n → j < n → own i ≡ true → own j ≡ true → rank i ≡ rank j → i ≡ j
-  same_rank i j a b oi oj e =
-      ⊎_elim (λ same. same)
-      (λ ne. ⊎_elim (λ x. absurd (omega (arith, rank_less i j a oi x))) (λ x. absurd (omega (arith, rank_less j i b oj x))) (total i j ne))
-      (cases_eq i j)
+  same_rank i j a b oi oj e = grind (arith, common_steps, rank_less, cases_eq)
 
   -- one place at the most for each rank
   step_up : (k : ℕ) → tally (within (suc k)) n ≤ tally (within k) n + 1
@@ -126,21 +106,12 @@ module _ (n : ℕ) (own : ℕ → Bool) (less : ℕ → ℕ → Bool)
     where
       each : (o : Bool) (r : ℕ) → cond (o && ltb r (suc k)) 1 0 ≡ cond (o && ltb r k) 1 0 + cond (o && eqb r k) 1 0
       each false r = refl
-      each true r =
-          ⊎_elim
-          (λ e. rw (lt-ltb r (suc k) (omega arith), le-ltb r k (omega arith), eq-eqb r k e))
-          (⊎_elim
-          (λ l. rw (lt-ltb r (suc k) (omega arith), lt-ltb r k l, ne_eqb r k (λ e. omega (arith, e, l))))
-          (λ g. rw (le-ltb r (suc k) (omega arith), le-ltb r k (omega arith), ne_eqb r k (λ e. omega (arith, e, g)))))
-          (cases_order r k)
+      each true r = grind (arith, common_steps, lt-ltb, le-ltb, eq-eqb, ne_eqb, cases_order)
 
   none_within : (m : ℕ) → tally (within 0) m ≡ 0
   unfolding tally
   none_within zero = refl
-  none_within (suc m) =
-      let rest = none_within m in
-      let no_one : within 0 m ≡ false = and_right (own m) (ltb (rank m) 0) (le-ltb (rank m) 0 (omega arith)) in
-      rw (rest, no_one)
+  none_within (suc m) = grind (arith, common_steps, none_within m, and_right, le-ltb)
 
   most : (k : ℕ) → tally (within k) n ≤ k
   most zero = omega (arith, none_within n)
@@ -172,36 +143,19 @@ module _ (confidence : List ℕ) where
   conf i = get_or confidence i 0
 
   less_parts : (i j : ℕ) → less_sure confidence i j ≡ true → (conf i < conf j) ⊎ ((conf i ≡ conf j) × (i < j))
-  less_parts i j e =
-      ⊎_elim (λ l. inl (ltb-true (conf i) (conf j) l))
-      (λ b. let x = and_parts (eqb (conf i) (conf j)) (ltb i j) b in inr (eqb-true (conf i) (conf j) x.0, ltb-true i j x.1))
-      (or_cases (ltb (conf i) (conf j)) _ e)
+  less_parts i j e = grind (arith, common_steps, ltb-true, and_parts, eqb-true, or_cases)
 
   less_from : (i j : ℕ) → (conf i < conf j) ⊎ ((conf i ≡ conf j) × (i < j)) → less_sure confidence i j ≡ true
-  less_from i j h =
-      ⊎_elim (λ l. or_left (ltb (conf i) (conf j)) _ (lt-ltb (conf i) (conf j) l))
-      (λ b. or_right (ltb (conf i) (conf j)) _ (and_from (eqb (conf i) (conf j)) (ltb i j) (eq-eqb (conf i) (conf j) b.0) (lt-ltb i j b.1))) h
+  less_from i j h = grind (arith, common_steps, or_left, lt-ltb, or_right, and_from, eq-eqb)
 
   sure_irreflexive : (i : ℕ) → less_sure confidence i i ≡ false
-  sure_irreflexive i =
-      ⊎_elim (λ e. absurd (⊎_elim (λ l. omega (arith, l)) (λ b. omega (arith, b.1)) (less_parts i i e))) (λ f. f)
-      (cases_Bool (less_sure confidence i i))
+  sure_irreflexive i = grind (arith, common_steps, less_parts, cases_Bool)
 
   sure_transitive : (i j k : ℕ) → less_sure confidence i j ≡ true → less_sure confidence j k ≡ true → less_sure confidence i k ≡ true
-  sure_transitive i j k a b =
-      less_from i k
-      (⊎_elim
-      (λ x. ⊎_elim (λ y. inl (omega (arith, x, y))) (λ y. inl (omega (arith, x, y.0))) (less_parts j k b))
-      (λ x. ⊎_elim (λ y. inl (omega (arith, x.0, y))) (λ y. inr (x.0 ∙ y.0, omega (arith, x.1, y.1))) (less_parts j k b))
-      (less_parts i j a))
+  sure_transitive i j k a b = grind (arith, common_steps, less_from, less_parts)
 
   sure_total : (i j : ℕ) → (i ≡ j → ⊥) → (less_sure confidence i j ≡ true) ⊎ (less_sure confidence j i ≡ true)
-  sure_total i j ne =
-      ⊎_elim
-      (λ e.
-      ⊎_elim (λ s. absurd (ne s))
-      (⊎_elim (λ l. inl (less_from i j (inr (e, l)))) (λ g. inr (less_from j i (inr (sym e, g))))) (cases_order i j))
-      (⊎_elim (λ l. inl (less_from i j (inl l))) (λ g. inr (less_from j i (inl g)))) (cases_order (conf i) (conf j))
+  sure_total i j ne = grind (arith, common_steps, less_from, cases_order)
 
   -- of the own places exactly k are among the k least sure
   pub least_sure : (n : ℕ) (own : ℕ → Bool) (k : ℕ) → k ≤ tally own n

@@ -1,5 +1,6 @@
 -- What a settled round says: the pattern fits the question, so Bob's corrected key has Alice's syndrome and disclosed bits.
-use Rattle.std.proofs.Common.{◌≡◌, ℕ, zero, suc, ◌+◌, ◌-◌, ◌%◌, ◌<◌, ◌≤◌, Bool, true, false, cond, eqb, List, length, get_or, sym, refl, ◌∙◌, subst, ⊎_elim, arith}
+use Rattle.std.proofs.Common.{◌≡◌, ℕ, zero, suc, ◌+◌, ◌-◌, ◌%◌, ◌<◌, ◌≤◌, Bool, true, false, List, length, get_or, sym, ◌∙◌, subst, ⊎_elim, arith}
+use Rattle.std.proofs.lemmas.Grind.{common_steps}
 use Rattle.std.proofs.lemmas.List.{ext_get_or}
 use Rattle.std.proofs.lemmas.List.FromFn.{length-map-range_with_len, get_or-map-range_with_len}
 use Rattle.std.proofs.lemmas.Bool.{cases_eq, eqb-true, eqb-false, ne_eqb, and_parts}
@@ -10,10 +11,9 @@ use Rattle.codes.proofs.Parities.{syndrome_at, syndrome-length, parity-added}
 use Rattle.decoders.specs.Question.{Question, SoundQuestion}
 use Rattle.decoders.specs.Fit.{pattern_fits, all_below, check_fits, place_fits, agrees}
 use Rattle.decoders.specs.Decoding.{Rule, Formed}
-use Rattle.decoders.specs.declared.state.State.TheVariants.{Known0, Known1}
 use Rattle.protocol.specs.Counting.{list_of}
 use Rattle.protocol.specs.Plan.{with_side, has_kind, plan_fits}
-use Rattle.protocol.specs.Asking.{known, state_at, question_of, known_at, known_pattern, settled, clashed, spent, named, share, judge_known, judge_answer, judged}
+use Rattle.protocol.specs.Asking.{known, state_at, question_of, known_pattern, settled, judged}
 use Rattle.protocol.specs.Guarantee.{Block}
 use Rattle.protocol.proofs.Opening.{fit_plan, syndrome-bit}
 use Rattle.protocol.proofs.Course.{course, question_at, judged_at, verdict_at, question_state}
@@ -25,42 +25,23 @@ all_at test (suc n) i e l =
     ⊎_elim (λ same. rw same p.1) (λ ne. all_at test n i p.0 (omega arith)) (cases_eq i n)
 
 agrees-known : (x b : ℕ) → x < 2 → agrees (known x) b ≡ true → b ≡ x
-agrees-known x b small = go (eqb x 0) refl
-  where
-    go : (t : Bool) → eqb x 0 ≡ t → agrees (cond t Known0 Known1) b ≡ true → b ≡ x
-    go true e f = eqb-true b 0 f ∙ sym (eqb-true x 0 e)
-    go false e f = omega (arith, eqb-true b 1 f, eqb-false x 0 e, small)
+agrees-known x b small = grind (arith, common_steps, eqb-true, eqb-false)
 
 judged-settles : (rule : Rule) (step left : ℕ) (q : Question) → (judged rule step left q).verdict ≡ settled
     → pattern_fits q (judged rule step left q).pattern ≡ true
 unfolding judged
-judged-settles rule step left q = go (all_below (known_at q) q.code.width)
-  where
-    known-fits : (f : Bool) → cond f settled clashed ≡ settled → f ≡ true
-    known-fits true e = refl
-    known-fits false e = let z : ◌≡◌ {A = ℕ} 0 1 = cc in absurd (omega arith)
-
-    answer-fits : (g z : Bool) (m : List ℕ) → cond g settled (cond z spent (named m)) ≡ settled → g ≡ true
-    answer-fits true z m e = refl
-    answer-fits false true m e = let c : ◌≡◌ {A = ℕ} 0 1 = cc in absurd (omega arith)
-    answer-fits false false m e = let c : ◌≡◌ {A = ℕ} 0 1 = cc in absurd (omega arith)
-
-    go : (t : Bool) → (cond t (judge_known q) (judge_answer q (rule q) step left)).verdict ≡ settled
-        → pattern_fits q (cond t (judge_known q) (judge_answer q (rule q) step left)).pattern ≡ true
-    go true e = known-fits (pattern_fits q (known_pattern q)) e
-    go false e = answer-fits (pattern_fits q (rule q).pattern) (eqb (share step left q) 0) _ e
+judged-settles rule step left q = grind (arith, common_steps)
 
 judged-length : (rule : Rule) (step left : ℕ) (q : Question) → Formed rule → SoundQuestion q
     → length (judged rule step left q).pattern ≡ q.code.width
 unfolding judged known_pattern list_of
-judged-length rule step left q formed sound = go (all_below (known_at q) q.code.width)
-  where
-    go : (t : Bool) → length (cond t (judge_known q) (judge_answer q (rule q) step left)).pattern ≡ q.code.width
-    go true = length-map-range_with_len _ 0 q.code.width
-    go false = (formed q sound).pattern.long
+judged-length rule step left q formed sound = grind (arith, common_steps, length-map-range_with_len)
 
 module _ (rule : Rule) (block : Block) (formed : Formed rule)
     (matrix : Admissible block.code.width (checks block.code) block.code.positions block.code.ends) where
+  abbrev difference_bit : ℕ → ℕ
+  difference_bit k = (get_or (syndrome block.code block.alice_key) k 0 + get_or (syndrome block.code block.bob_key) k 0) % 2
+
   sound_question : (side : ℕ) → plan_fits (with_side side block.plan) block.code ≡ true → (rounds : List ℕ)
       → SoundQuestion (question_at rule block rounds)
   unfolding question_of list_of
@@ -71,7 +52,7 @@ module _ (rule : Rule) (block : Block) (formed : Formed rule)
         difference =
             record {
               long = length-map-range_with_len _ 0 (checks block.code);
-              bits = λ k l. omega (arith, get_or-map-range_with_len (λ i. (get_or (syndrome block.code block.alice_key) i 0 + get_or (syndrome block.code block.bob_key) i 0) % 2) 0 (checks block.code) k k 0 l (omega arith));
+              bits = λ k l. omega (arith, get_or-map-range_with_len difference_bit 0 (checks block.code) k k 0 l (omega arith));
             };
         states = length-map-range_with_len _ 0 block.code.width;
         low = p.class_low;
@@ -84,33 +65,34 @@ module _ (rule : Rule) (block : Block) (formed : Formed rule)
 
     pub pattern-length : length agreed_pattern ≡ block.code.width
     unfolding question_of
-    pattern-length =
-        judged-length rule block.plan.step (block.plan.cap - (course rule block r).count) (question_at rule block (course rule block r).rounds) formed
-        (sound_question side fits (course rule block r).rounds)
+    pattern-length = grind (arith, common_steps, judged-length, course, question_at, sound_question)
 
-    fit_all : pattern_fits (question_at rule block (course rule block r).rounds) agreed_pattern ≡ true
-    fit_all = judged-settles rule block.plan.step (block.plan.cap - (course rule block r).count) (question_at rule block (course rule block r).rounds) has_settled
+    abbrev asked : Question
+    asked = question_at rule block (course rule block r).rounds
+
+    fit_all : (all_below (check_fits asked agreed_pattern) (checks block.code) ≡ true)
+        × (all_below (place_fits asked agreed_pattern) block.code.width ≡ true)
+    unfolding pattern_fits question_of
+    fit_all =
+        and_parts (all_below (check_fits asked agreed_pattern) (checks block.code)) (all_below (place_fits asked agreed_pattern) block.code.width)
+        (judged-settles rule block.plan.step (block.plan.cap - (course rule block r).count) asked has_settled)
 
     -- each check's parity over the pattern is the sum of both syndrome bits
     check-fits : (k : ℕ) → k < checks block.code
         → parity agreed_pattern (check block.code k)
-        ≡ (get_or (syndrome block.code block.alice_key) k 0 + get_or (syndrome block.code block.bob_key) k 0) % 2
-    unfolding pattern_fits question_of list_of
+        ≡ difference_bit k
+    unfolding question_of list_of
     check-fits k l =
-        let q = question_at rule block (course rule block r).rounds in
-        let p = and_parts (all_below (check_fits q agreed_pattern) (checks block.code)) (all_below (place_fits q agreed_pattern) block.code.width) fit_all in
-        eqb-true _ _ (all_at (check_fits q agreed_pattern) (checks block.code) k p.0 l)
-        ∙ get_or-map-range_with_len (λ i. (get_or (syndrome block.code block.alice_key) i 0 + get_or (syndrome block.code block.bob_key) i 0) % 2) 0 (checks block.code) k k 0 l (omega arith)
+        eqb-true _ _ (all_at (check_fits asked agreed_pattern) (checks block.code) k fit_all.0 l)
+        ∙ get_or-map-range_with_len difference_bit 0 (checks block.code) k k 0 l (omega arith)
 
     place-fits : (i : ℕ) → i < block.code.width
         → agrees (state_at block.plan.kinds (course rule block r).rounds block.alice_key block.bob_key i) (get_or agreed_pattern i 0) ≡ true
-    unfolding pattern_fits question_of
+    unfolding question_of
     place-fits i l =
-        let q = question_at rule block (course rule block r).rounds in
-        let p = and_parts (all_below (check_fits q agreed_pattern) (checks block.code)) (all_below (place_fits q agreed_pattern) block.code.width) fit_all in
         let st = question_state block.code block.plan.class block.plan.kinds (course rule block r).rounds
         (syndrome block.code block.alice_key) (syndrome block.code block.bob_key) block.alice_key block.bob_key i l in
-        subst (λ x. agrees x (get_or agreed_pattern i 0) ≡ true) st (all_at (place_fits q agreed_pattern) block.code.width i p.1 l)
+        subst (λ x. agrees x (get_or agreed_pattern i 0) ≡ true) st (all_at (place_fits asked agreed_pattern) block.code.width i fit_all.1 l)
 
     -- a disclosed position that is not shortened has the sum of both bits
     pub disclosed-bit : (i : ℕ) → i < block.code.width → (get_or (course rule block r).rounds i 0 ≡ 0 → ⊥) → has_kind 2 block.plan.kinds i ≡ false

@@ -1,5 +1,5 @@
 -- Both ends of a block, over every run.
-use Rattle.std.proofs.Common.{◌≡◌, ℕ, ◌<◌, true, cond, eqb, List, [], ◌∷◌, sym, refl, subst, ⊎_elim, arith}
+use Rattle.std.proofs.Common.{◌≡◌, ℕ, ◌<◌, ◌≤◌, true, cond, eqb, List, [], ◌∷◌, sym, refl, subst, ⊎_elim, arith}
 use Rattle.std.proofs.lemmas.Bool.{cases_eq, eq-eqb, ne_eqb}
 use Rattle.decoders.specs.Decoding.{Rule}
 use Rattle.frames.specs.Format.{frame_bytes}
@@ -7,12 +7,12 @@ use Rattle.protocol.specs.State.{Held}
 use Rattle.protocol.specs.Calls.{Call, Reply, open_call, turn_call, begins, turns}
 use Rattle.protocol.specs.Steps.{step_of}
 use Rattle.protocol.specs.Runs.{Ask, Event, held_after, log_of}
-use Rattle.protocol.specs.Reading.{Among, here, there, event, is_naming, Wrote}
-use Rattle.protocol.specs.Guarantee.{Block, Premises}
+use Rattle.protocol.specs.Reading.{Among, here, there, event, is_naming, opens, Wrote, Delivered}
+use Rattle.protocol.specs.Guarantee.{Block, OpensAs, TurnsWith, Premises}
 use Rattle.protocol.proofs.Opening.{FitKey}
 use Rattle.protocol.proofs.Course.{verdict_at}
 use Rattle.protocol.proofs.CourseFrames.{course_frame}
-use Rattle.protocol.proofs.Follow.{Seat, alice_seat, bob_seat, of_alice, of_bob}
+use Rattle.protocol.proofs.Follow.{Seat, SeatOf, alice_seat, bob_seat, of_alice, of_bob}
 use Rattle.protocol.proofs.Track.{Track, track_none}
 use Rattle.protocol.proofs.Tracking.{track_other, track_own}
 
@@ -50,47 +50,30 @@ frames_of rule block h o seat other x log t bytes w =
 among_this : (h : ℕ) (call call' : Call) (r r' : Reply) (log : List Event) → call ≡ call' → r ≡ r' → Among (event h call' r') (event h call r ∷ log)
 among_this h call call' r r' log e f = rw (← e, ← f) here
 
-module _ (rule : Rule) (block : Block) (asks : List Ask) (both : Both rule block asks) (call : Call) where
-  alice-step : Premises block (event block.alice call (step_of rule (held_after rule asks block.alice) call).reply ∷ log_of rule asks)
-      → Track rule block block.alice block.bob (alice_seat block) (bob_seat block)
-      (step_of rule (held_after rule asks block.alice) call).held
-      (event block.alice call (step_of rule (held_after rule asks block.alice) call).reply ∷ log_of rule asks)
-  alice-step p =
-      let r = (step_of rule (held_after rule asks block.alice) call).reply in
-      track_own rule block block.alice block.bob (alice_seat block) (bob_seat block) of_alice refl p.matrix p.number (omega arith)
-      (held_after rule asks block.alice) call (log_of rule asks) both.alice_on
-      (frames_of rule block block.alice block.bob (alice_seat block) (bob_seat block) (held_after rule asks block.bob) (log_of rule asks) both.bob_on)
+module _ (rule : Rule) (block : Block) (asks : List Ask) (call : Call) where
+  -- a call of one of the ends, by what the premises say of that end
+  own_step : (h o : ℕ) (seat other : Seat) → SeatOf block seat → other.own ≡ seat.other → other.side < 2
+      → Track rule block h o seat other (held_after rule asks h) (log_of rule asks)
+      → Track rule block o h other seat (held_after rule asks o) (log_of rule asks)
+      → Premises block (event h call (step_of rule (held_after rule asks h) call).reply ∷ log_of rule asks)
+      → OpensAs block h seat.side seat.own (event h call (step_of rule (held_after rule asks h) call).reply ∷ log_of rule asks)
+      → opens h (event h call (step_of rule (held_after rule asks h) call).reply ∷ log_of rule asks) ≤ 1
+      → TurnsWith block h (event h call (step_of rule (held_after rule asks h) call).reply ∷ log_of rule asks)
+      → Delivered h o (event h call (step_of rule (held_after rule asks h) call).reply ∷ log_of rule asks)
+      → Track rule block h o seat other (step_of rule (held_after rule asks h) call).held
+      (event h call (step_of rule (held_after rule asks h) call).reply ∷ log_of rule asks)
+  own_step h o seat other of whose side this that p opens-as once turns-with hears =
+      let log = log_of rule asks in
+      let r = (step_of rule (held_after rule asks h) call).reply in
+      track_own rule block h o seat other of whose p.matrix p.number side (held_after rule asks h) call log this
+      (frames_of rule block h o seat other (held_after rule asks o) log that)
       (record {
-        opens_as = λ q c k m is accepted. p.alice_opens q c k m (among_this block.alice call (open_call q c k m) r begins (log_of rule asks) is accepted);
-        once = p.alice_once;
+        opens_as = λ q c k m is accepted. opens-as q c k m (among_this h call (open_call q c k m) r begins log is accepted);
+        once = once;
         turns_with =
             λ c room q f w v q' f' is accepted.
-            p.alice_turns c room q f w v q' f'
-            (among_this block.alice call (turn_call c room q f w) r (turns v q' f') (log_of rule asks) is accepted);
-        hears_from =
-            λ bytes what is accepted.
-            p.alice_hears.0 bytes what (let a = is in let b = accepted in cc);
-      })
-
-  bob-step : Premises block (event block.bob call (step_of rule (held_after rule asks block.bob) call).reply ∷ log_of rule asks)
-      → Track rule block block.bob block.alice (bob_seat block) (alice_seat block)
-      (step_of rule (held_after rule asks block.bob) call).held
-      (event block.bob call (step_of rule (held_after rule asks block.bob) call).reply ∷ log_of rule asks)
-  bob-step p =
-      let r = (step_of rule (held_after rule asks block.bob) call).reply in
-      track_own rule block block.bob block.alice (bob_seat block) (alice_seat block) of_bob refl p.matrix p.number (omega arith)
-      (held_after rule asks block.bob) call (log_of rule asks) both.bob_on
-      (frames_of rule block block.bob block.alice (bob_seat block) (alice_seat block) (held_after rule asks block.alice) (log_of rule asks) both.alice_on)
-      (record {
-        opens_as = λ q c k m is accepted. p.bob_opens q c k m (among_this block.bob call (open_call q c k m) r begins (log_of rule asks) is accepted);
-        once = p.bob_once;
-        turns_with =
-            λ c room q f w v q' f' is accepted.
-            p.bob_turns c room q f w v q' f'
-            (among_this block.bob call (turn_call c room q f w) r (turns v q' f') (log_of rule asks) is accepted);
-        hears_from =
-            λ bytes what is accepted.
-            p.bob_hears.0 bytes what (let a = is in let b = accepted in cc);
+            turns-with c room q f w v q' f' (among_this h call (turn_call c room q f w) r (turns v q' f') log is accepted);
+        hears_from = λ bytes what is accepted. hears.0 bytes what (let a = is in let b = accepted in cc);
       })
 
   -- the end with handle h, whoever made the call
@@ -125,9 +108,15 @@ together rule block (a ∷ asks) p =
     λ h e. subst (λ k. Premises block (event k a.call (step_of rule (held_after rule asks k) a.call).reply ∷ log_of rule asks)) e p in
     record {
       alice_on =
-          at_end rule block asks both a.call block.alice block.bob (alice_seat block) (bob_seat block) a.handle both.alice_on
-          (λ e. alice-step rule block asks both a.call (at block.alice e));
+          at_end rule block asks a.call block.alice block.bob (alice_seat block) (bob_seat block) a.handle both.alice_on
+          (λ e.
+          let q = at block.alice e in
+          own_step rule block asks a.call block.alice block.bob (alice_seat block) (bob_seat block) of_alice refl (omega arith)
+          both.alice_on both.bob_on q q.alice_opens q.alice_once q.alice_turns q.alice_hears);
       bob_on =
-          at_end rule block asks both a.call block.bob block.alice (bob_seat block) (alice_seat block) a.handle both.bob_on
-          (λ e. bob-step rule block asks both a.call (at block.bob e));
+          at_end rule block asks a.call block.bob block.alice (bob_seat block) (alice_seat block) a.handle both.bob_on
+          (λ e.
+          let q = at block.bob e in
+          own_step rule block asks a.call block.bob block.alice (bob_seat block) (alice_seat block) of_bob refl (omega arith)
+          both.bob_on both.alice_on q q.bob_opens q.bob_once q.bob_turns q.bob_hears);
     }

@@ -74,24 +74,7 @@ module _ (rule : Rule) (block : Block) (h o : ℕ) (seat other : Seat) where
     pub facts : Facts x (opens h log) (reached h log) log
 
   pub track_none : Track idle []
-  track_none =
-      record {
-        held = tt;
-        unopened = λ e. refl;
-        facts =
-            record {
-              names_all = λ j l. absurd (omega arith);
-              maps = λ j l. absurd (omega arith);
-              publics = λ i e. absurd (both_ways false refl e);
-              frames = λ bytes (r, buffer, buffer', a). absurd (nothing a);
-              settles = λ c room p f w p' f' a. absurd (nothing a);
-              keys = λ b b' a. absurd (nothing a);
-              closings = λ number side raw leak a. absurd (nothing a);
-            };
-      }
-    where
-      nothing : {x : Event} → Among x [] → ⊥
-      nothing a = elim a [ ]
+  track_none = grind (arith, both_ways)
 
   -- one more event that names nothing
   module _ (x y : Held) (e : Event) (log : List Event) (t : Track x log) (quiet : names_at h e ≡ false)
@@ -193,17 +176,17 @@ module _ (rule : Rule) (block : Block) (h o : ℕ) (seat other : Seat) where
                   (or_cases (names_at h turned && eqb (get_or m i 0) 1) (discloses h i log) d);
               frames =
                   λ bytes (r, buffer, buffer', a).
-                  ⊎_elim (λ is. let reply = ap (λ x. x.reply) is in let z : ◌≡◌ {A = ℕ} 0 1 = cc in absurd (omega arith))
+                  ⊎_elim (λ is. let reply = ap (λ x. x.reply) is in cc)
                   (λ old. let z = t.facts.frames bytes (r, buffer, buffer', old) in (z.0, omega (arith, z.1), z.2, z.3, z.4)) (among_split a);
               settles =
                   λ c' room' p₁ g w' p₂ g' a.
-                  ⊎_elim (λ is. let reply = ap (λ x. x.reply) is in let z : ◌≡◌ {A = ℕ} 0 1 = cc in absurd (omega arith))
+                  ⊎_elim (λ is. let reply = ap (λ x. x.reply) is in cc)
                   (λ old. not_yet (t.facts.settles c' room' p₁ g w' p₂ g' old).0) (among_split a);
               keys =
                   λ b b' a.
-                  ⊎_elim (λ is. let reply = ap (λ x. x.reply) is in let z : ◌≡◌ {A = ℕ} 0 1 = cc in absurd (omega arith)) (λ old. not_yet (t.facts.keys b b' old).0) (among_split a);
+                  ⊎_elim (λ is. let reply = ap (λ x. x.reply) is in cc) (λ old. not_yet (t.facts.keys b b' old).0) (among_split a);
               closings =
                   λ number side raw leak a.
-                  ⊎_elim (λ is. let reply = ap (λ x. x.reply) is in let z : ◌≡◌ {A = ℕ} 0 1 = cc in absurd (omega arith))
+                  ⊎_elim (λ is. let reply = ap (λ x. x.reply) is in cc)
                   (λ old. not_yet (t.facts.closings number side raw leak old).0) (among_split a);
             }

@@ -1,19 +1,21 @@
 -- Every run keeps both ends of a block on the block's course.
-use Rattle.std.proofs.Common.{◌≡◌, ℕ, ◌+◌, ◌-◌, ◌^◌, ◌<◌, ◌≤◌, Bool, true, false, cond, not, eqb, ltb, List, ◌∷◌, length, sym, refl, ap, ◌∙◌, subst, inl, inr, ⊎_elim, arith}
+use Rattle.std.proofs.Common.{◌≡◌, ℕ, ◌+◌, ◌-◌, ◌^◌, ◌<◌, ◌≤◌, Bool, true, false, cond, eqb, ltb, List, ◌∷◌, length, sym, refl, ap, ◌∙◌, subst, inl, inr, ⊎_elim, arith}
+use Rattle.std.proofs.lemmas.Grind.{common_steps}
 use Rattle.std.proofs.lemmas.Bool.{cases_lt, eq-eqb, ne_eqb, ltb-false, and_from, and_left, and_right, both_ways}
 use Rattle.codes.specs.Code.{Code, checks}
 use Rattle.codes.specs.Admission.{Admissible}
 use Rattle.decoders.specs.Decoding.{Rule, Room}
+use Rattle.ledger.specs.Lines.{is_settled}
 use Rattle.ledger.specs.declared.line.Outcome.{Outcome}
 use Rattle.ledger.specs.declared.line.Outcome.TheVariants.{Open, Settled, Spent, Clashed}
 use Rattle.frames.specs.Format.{frame_bytes}
 use Rattle.frames.specs.Writing.{laid}
 use Rattle.protocol.specs.Plan.{Plan, with_side, count_kind, plan_fits, has_kind}
-use Rattle.protocol.specs.State.{State, Held, idle, opened, begun, frame_of, agreed_bit, is_open, is_settled, raw_bits, leak_of}
+use Rattle.protocol.specs.State.{State, Held, idle, opened, begun, frame_of, agreed_bit, is_open, raw_bits, leak_of}
 use Rattle.protocol.specs.Asking.{Verdict, settled, clashed, spent, named}
 use Rattle.protocol.specs.Calls.{Call, Done, Reply, open_call, say_call, hear_call, turn_call, key_call, close_call, refused, no_memory, begins, says, hears, turns, writes, closes}
 use Rattle.protocol.specs.Hearing.{hear_done, stays}
-use Rattle.protocol.specs.Turning.{turn_done, taken, after, judged_now, is_matrix, roomy, fronted, concluded, disclosing}
+use Rattle.protocol.specs.Turning.{turn_done, taken, after, judged_now, fronted, concluded, disclosing}
 use Rattle.protocol.specs.Steps.{step_of, open_done, say_done, key_done, told}
 use Rattle.protocol.specs.Runs.{Event}
 use Rattle.protocol.specs.Reading.{event, names, is_naming, names_at, reached, opens, is_begin, Wrote}
@@ -53,19 +55,7 @@ pub data Turned (rule : Rule) (s : State) (code : Code) (p f : List ℕ) (d : Do
 
 pub turn_cases : (rule : Rule) (s : State) (code : Code) (room : Room) (p f : List ℕ) (w : ℕ) → Turned rule s code p f (turn_done rule s code room p f w)
 unfolding turn_done
-turn_cases rule s code room p f w =
-    go (is_open s.stage.outcome) refl s.stage.heard refl (not (is_matrix s code)) (roomy code room p f w)
-  where
-    go : (t : Bool) → is_open s.stage.outcome ≡ t → (u : Bool) → s.stage.heard ≡ u → (m v : Bool)
-        → Turned rule s code p f
-        (cond (not t) (stays s (refused 17 0))
-        (cond (not u) (stays s (refused 18 0))
-        (cond m (stays s (refused 19 0)) (cond v (taken s (judged_now rule s code) p f) (stays s (refused 20 0))))))
-    go false e u g m v = not_turned refl tt
-    go true e false g m v = not_turned refl tt
-    go true e true g true v = not_turned refl tt
-    go true e true g false false = not_turned refl tt
-    go true e true g false true = is_turned e g refl
+turn_cases rule s code room p f w = grind (arith, common_steps)
 
 pub data Keyed (s : State) (b : List ℕ) (d : Done State) : Type 0 where
   not_keyed : d.held ≡ s → Silent d.reply → Keyed s b d
@@ -73,17 +63,7 @@ pub data Keyed (s : State) (b : List ℕ) (d : Done State) : Type 0 where
 
 pub key_cases : (s : State) (b : List ℕ) → Keyed s b (key_done s b)
 unfolding key_done
-key_cases s b = go (is_settled s.stage.outcome) refl (ltb (length b) (length (raw_bits s.kinds (agreed_bit s))))
-  where
-    go : (t : Bool) → is_settled s.stage.outcome ≡ t → (u : Bool)
-        → Keyed s b
-        (cond t
-        (cond u (stays s (refused 12 (length (raw_bits s.kinds (agreed_bit s)))))
-        (stays s (writes (laid (raw_bits s.kinds (agreed_bit s)) b))))
-        (stays s (refused 21 0)))
-    go false e u = not_keyed refl tt
-    go true e true = not_keyed refl tt
-    go true e false = is_keyed e refl
+key_cases s b = grind (arith, common_steps)
 
 module _ (rule : Rule) (block : Block) (h o : ℕ) (seat other : Seat) where
   abbrev pub T : Held → List Event → Type 0
@@ -92,13 +72,7 @@ module _ (rule : Rule) (block : Block) (h o : ℕ) (seat other : Seat) where
   -- what an open end holds does not depend on events of others
   stands_later : (s : State) (e : Event) (log : List Event) → names_at h e ≡ false → opens h (e ∷ log) ≡ opens h log
       → Stands rule block h o seat other s log → Stands rule block h o seat other s (e ∷ log)
-  stands_later s e log quiet same-opens t =
-      record {
-        follows = t.follows;
-        round = t.round ∙ sym (rw quiet (omega arith));
-        once = same-opens ∙ t.once;
-        got = λ j x. wrote_later o (frame_bytes (course_frame rule block other j)) e log (t.got j x);
-      }
+  stands_later s e log quiet same-opens t = grind (arith, common_steps, wrote_later, course_frame)
 
   held_later : (x : Held) (e : Event) (log : List Event) → names_at h e ≡ false → opens h (e ∷ log) ≡ opens h log
       → HeldOn rule block h o seat other x log → HeldOn rule block h o seat other x (e ∷ log)
@@ -122,33 +96,23 @@ module _ (rule : Rule) (block : Block) (h o : ℕ) (seat other : Seat) where
       (λ b b' is. absurd (ne (sym (ap (λ z. z.handle) is))))
       (λ number side raw leak is. absurd (ne (sym (ap (λ z. z.handle) is))))
 
-  silent_names : (r : Reply) → Silent r → names r ≡ false
-  silent_names (refused number place) z = refl
-  silent_names no_memory z = refl
-  silent_names begins z = absurd z
-  silent_names (says bytes buffer) z = absurd z
-  silent_names (hears what) z = refl
-  silent_names (turns verdict p f) z = absurd z
-  silent_names (writes buffer) z = absurd z
-  silent_names (closes number side raw leak outcome) z = absurd z
-
-  silent_begin : (r : Reply) → Silent r → is_begin r ≡ false
-  silent_begin (refused number place) z = refl
-  silent_begin no_memory z = refl
-  silent_begin begins z = absurd z
-  silent_begin (says bytes buffer) z = absurd z
-  silent_begin (hears what) z = refl
-  silent_begin (turns verdict p f) z = absurd z
-  silent_begin (writes buffer) z = absurd z
-  silent_begin (closes number side raw leak outcome) z = absurd z
+  silent_tells : (r : Reply) → Silent r → (names r ≡ false) × (is_begin r ≡ false)
+  silent_tells (refused number place) z = (refl, refl)
+  silent_tells no_memory z = (refl, refl)
+  silent_tells begins z = absurd z
+  silent_tells (says bytes buffer) z = absurd z
+  silent_tells (hears what) z = (refl, refl)
+  silent_tells (turns verdict p f) z = absurd z
+  silent_tells (writes buffer) z = absurd z
+  silent_tells (closes number side raw leak outcome) z = absurd z
 
   track_silent : (x y : Held) (call : Call) (r : Reply) (log : List Event) → Silent r → T x log
       → (Ended x (opens h log) → Ended y (opens h log))
       → HeldOn rule block h o seat other y (event h call r ∷ log)
       → T y (event h call r ∷ log)
   track_silent x y call r log quiet t keep held =
-      let same-opens : opens h (event h call r ∷ log) ≡ opens h log = rw (and_right (eqb h h) (is_begin r) (silent_begin r quiet)) (omega arith) in
-      grow rule block h o seat other x y (event h call r) log t (and_right (eqb h h) (names r) (silent_names r quiet))
+      let same-opens : opens h (event h call r ∷ log) ≡ opens h log = rw (and_right (eqb h h) (is_begin r) (silent_tells r quiet).1) (omega arith) in
+      grow rule block h o seat other x y (event h call r) log t (and_right (eqb h h) (names r) (silent_tells r quiet).0)
       (λ z. subst (λ k. Ended y k) (sym same-opens) (keep z)) held
       (λ bytes k buffer buffer' is. absurd (subst Silent (sym (ap (λ z. z.reply) is)) quiet))
       (λ c room p f w p' f' is. absurd (subst Silent (sym (ap (λ z. z.reply) is)) quiet))
@@ -181,8 +145,8 @@ module _ (rule : Rule) (block : Block) (h o : ℕ) (seat other : Seat) where
     open_silent : (s : State) (call : Call) (r : Reply) (log : List Event) → Silent r → T (opened s) log → T (opened s) (event h call r ∷ log)
     open_silent s call r log quiet t =
         track_silent (opened s) (opened s) call r log quiet t (λ e. e)
-        (stands_later s (event h call r) log (and_right (eqb h h) (names r) (silent_names r quiet))
-        (rw (and_right (eqb h h) (is_begin r) (silent_begin r quiet)) (omega arith)) t.held)
+        (stands_later s (event h call r) log (and_right (eqb h h) (names r) (silent_tells r quiet).0)
+        (rw (and_right (eqb h h) (is_begin r) (silent_tells r quiet).1) (omega arith)) t.held)
 
     begun_on : (p : Plan) (c : Code) (key : List ℕ) → p ≡ with_side seat.side block.plan → c ≡ block.code → key ≡ seat.own
         → plan_fits p c ≡ true → FitKey c.width p.kinds key → Follows rule block seat (begun p c key)
@@ -207,10 +171,10 @@ module _ (rule : Rule) (block : Block) (h o : ℕ) (seat other : Seat) where
           once = omega arith;
           got = λ j x. absurd (⊎_elim (λ l. omega (arith, l)) (λ y. both_ways false refl y.1) x);
         })
-        (λ bytes r buffer buffer' is. let reply = ap (λ x. x.reply) is in let z : ◌≡◌ {A = ℕ} 0 1 = cc in absurd (omega arith))
-        (λ c' room p' f' w p₁ f₁ is. let reply = ap (λ x. x.reply) is in let z : ◌≡◌ {A = ℕ} 0 1 = cc in absurd (omega arith))
-        (λ b b' is. let reply = ap (λ x. x.reply) is in let z : ◌≡◌ {A = ℕ} 0 1 = cc in absurd (omega arith))
-        (λ nb sd raw leak is. let reply = ap (λ x. x.reply) is in let z : ◌≡◌ {A = ℕ} 0 1 = cc in absurd (omega arith))
+        (λ bytes r buffer buffer' is. let reply = ap (λ x. x.reply) is in cc)
+        (λ c' room p' f' w p₁ f₁ is. let reply = ap (λ x. x.reply) is in cc)
+        (λ b b' is. let reply = ap (λ x. x.reply) is in cc)
+        (λ nb sd raw leak is. let reply = ap (λ x. x.reply) is in cc)
 
     idle-opens : (p : Plan) (c : Code) (key : List ℕ) (memory : Bool) (log : List Event) → T idle log
         → Allowed (open_call p c key memory) (open_done p c key memory).reply log
@@ -242,10 +206,10 @@ module _ (rule : Rule) (block : Block) (h o : ℕ) (seat other : Seat) where
             let call = ap (λ x. x.call) is₁ in
             let same_bytes : bytes₁ ≡ bytes = cc in
             let same-round : r ≡ r₁ = cc in
-            (r, omega (arith, t.held.round), same_bytes ∙ ap frame_bytes (frame_is rule block seat s t.held.follows r l), t.held.follows.key_fits, same-round))
-            (λ c' room p' f' w p₁ f₁ is₁. let reply = ap (λ x. x.reply) is₁ in let z : ◌≡◌ {A = ℕ} 0 1 = cc in absurd (omega arith))
-            (λ b b' is₁. let reply = ap (λ x. x.reply) is₁ in let z : ◌≡◌ {A = ℕ} 0 1 = cc in absurd (omega arith))
-            (λ nb sd raw leak is₁. let reply = ap (λ x. x.reply) is₁ in let z : ◌≡◌ {A = ℕ} 0 1 = cc in absurd (omega arith)))
+            (r, omega (arith, t.held.round), same_bytes ∙ ap frame_bytes (frame_is rule block seat s t.held.follows r l), t.held.follows.began.key_fits, same-round))
+            (λ c' room p' f' w p₁ f₁ is₁. let reply = ap (λ x. x.reply) is₁ in cc)
+            (λ b b' is₁. let reply = ap (λ x. x.reply) is₁ in cc)
+            (λ nb sd raw leak is₁. let reply = ap (λ x. x.reply) is₁ in cc))
 
     -- an end that hears
     open_hears : (s : State) (bytes : List ℕ) (log : List Event) → T (opened s) log → OtherFrames log
@@ -300,7 +264,7 @@ module _ (rule : Rule) (block : Block) (h o : ℕ) (seat other : Seat) where
           grow rule block h o seat other (opened s) (opened (concluded s outcome present)) ev log t quiet
           (λ z. absurd (both_ways (is_open s.stage.outcome) z ongoing))
           (record { follows = follows; round = st.round; once = st.once; got = st.got })
-          (λ bytes r b b' is. let reply = ap (λ x. x.reply) is in let z : ◌≡◌ {A = ℕ} 0 1 = cc in absurd (omega arith))
+          (λ bytes r b b' is. let reply = ap (λ x. x.reply) is in cc)
           (λ c₁ room₁ p₁ f₁ w₁ p' f₂ is.
           let reply = ap (λ x. x.reply) is in
           let call = ap (λ x. x.call) is in
@@ -311,13 +275,13 @@ module _ (rule : Rule) (block : Block) (h o : ℕ) (seat other : Seat) where
             over,
             ap (verdict_at rule block) (sym round) ∙ e ∙ same-v,
             front ∙ ap (fronted present) (sym same-p) ∙ ap (λ k. fronted (judged_at rule block (course rule block k)).pattern p₁) round,
-            t.held.follows.key_fits,
-            t.held.follows.fits,
+            t.held.follows.began.key_fits,
+            t.held.follows.began.fits,
             wrote_later o (frame_bytes (course_frame rule block other 0)) ev log
                 (t.held.got 0 (⊎_elim (λ lt. inl lt) (λ ge. inr (omega arith, heard)) (cases_lt 0 s.stage.round))),
           ))
-          (λ b b' is. let reply = ap (λ x. x.reply) is in let z : ◌≡◌ {A = ℕ} 0 1 = cc in absurd (omega arith))
-          (λ nb sd raw leak is. let reply = ap (λ x. x.reply) is in let z : ◌≡◌ {A = ℕ} 0 1 = cc in absurd (omega arith))
+          (λ b b' is. let reply = ap (λ x. x.reply) is in cc)
+          (λ nb sd raw leak is. let reply = ap (λ x. x.reply) is in cc)
 
       -- a turn that names
       disclose : (m f' : List ℕ) → verdict_at rule block s.stage.round ≡ named m → Follows rule block seat (disclosing s m present)
@@ -380,29 +344,29 @@ module _ (rule : Rule) (block : Block) (h o : ℕ) (seat other : Seat) where
         go (is_keyed has_settled is) =
             let over = settled-ended s.stage.outcome has_settled in
             let f = t.held.follows in
-            let side-is = ap (λ x. x.side) f.terms in
-            let key-is = f.key in
+            let side-is = ap (λ x. x.side) f.began.terms_are in
+            let key-is = f.began.key_is in
             let pattern_is = (f.ended over).2 in
             let round_is = t.held.round in
             let agreed : (i : ℕ) → agreed_bit s i ≡ agreed_at rule block h o seat other (reached h log) i = λ i. cc in
             let bits : raw_bits s.kinds (agreed_bit s) ≡ raw_bits block.plan.kinds (agreed_at rule block h o seat other (reached h log)) =
             gathered_cong (has_kind 0 s.kinds) (agreed_bit s) (agreed_at rule block h o seat other (reached h log)) (length s.kinds) (λ i l e. agreed i)
-            ∙ ap (λ ks. raw_bits ks (agreed_at rule block h o seat other (reached h log))) f.kinds in
+            ∙ ap (λ ks. raw_bits ks (agreed_at rule block h o seat other (reached h log))) f.began.kinds_are in
             let out = laid (raw_bits s.kinds (agreed_bit s)) b in
             let ev = event h (key_call b) (writes out) in
             let quiet : names_at h ev ≡ false = and_right (eqb h h) false refl in
             let same-opens : opens h (ev ∷ log) ≡ opens h log = rw (and_right (eqb h h) false refl) (omega arith) in
             rw is
             (grow rule block h o seat other (opened s) (opened s) ev log t quiet (λ z. z) (stands_later s ev log quiet same-opens t.held)
-            (λ bytes r b₁ b' is₁. let reply = ap (λ x. x.reply) is₁ in let z : ◌≡◌ {A = ℕ} 0 1 = cc in absurd (omega arith))
-            (λ c₁ room₁ p₁ f₁ w₁ p' f₂ is₁. let reply = ap (λ x. x.reply) is₁ in let z : ◌≡◌ {A = ℕ} 0 1 = cc in absurd (omega arith))
+            (λ bytes r b₁ b' is₁. let reply = ap (λ x. x.reply) is₁ in cc)
+            (λ c₁ room₁ p₁ f₁ w₁ p' f₂ is₁. let reply = ap (λ x. x.reply) is₁ in cc)
             (λ b₁ b' is₁.
             let reply = ap (λ x. x.reply) is₁ in
             let call = ap (λ x. x.call) is₁ in
             let same-b : b₁ ≡ b = cc in
             let same_out : b' ≡ out = cc in
             (over, same_out ∙ ap (λ xs. laid xs b) bits ∙ ap (laid (raw_bits block.plan.kinds (agreed_at rule block h o seat other (reached h log)))) (sym same-b)))
-            (λ nb sd raw leak is₁. let reply = ap (λ x. x.reply) is₁ in let z : ◌≡◌ {A = ℕ} 0 1 = cc in absurd (omega arith)))
+            (λ nb sd raw leak is₁. let reply = ap (λ x. x.reply) is₁ in cc))
 
     -- an end that closes
     open_closes : (s : State) (log : List Event) → T (opened s) log → T idle (event h close_call (told s) ∷ log)
@@ -413,18 +377,18 @@ module _ (rule : Rule) (block : Block) (h o : ℕ) (seat other : Seat) where
         let same-opens : opens h (ev ∷ log) ≡ opens h log = rw (and_right (eqb h h) false refl) (omega arith) in
         let shut : opens h (ev ∷ log) ≡ 1 = same-opens ∙ t.held.once in
         grow rule block h o seat other (opened s) idle ev log t quiet (λ z. shut) tt
-        (λ bytes r b₁ b' is₁. let reply = ap (λ x. x.reply) is₁ in let z : ◌≡◌ {A = ℕ} 0 1 = cc in absurd (omega arith))
-        (λ c₁ room₁ p₁ f₁ w₁ p' f₂ is₁. let reply = ap (λ x. x.reply) is₁ in let z : ◌≡◌ {A = ℕ} 0 1 = cc in absurd (omega arith))
-        (λ b₁ b' is₁. let reply = ap (λ x. x.reply) is₁ in let z : ◌≡◌ {A = ℕ} 0 1 = cc in absurd (omega arith))
+        (λ bytes r b₁ b' is₁. let reply = ap (λ x. x.reply) is₁ in cc)
+        (λ c₁ room₁ p₁ f₁ w₁ p' f₂ is₁. let reply = ap (λ x. x.reply) is₁ in cc)
+        (λ b₁ b' is₁. let reply = ap (λ x. x.reply) is₁ in cc)
         (λ nb sd raw leak is₁.
         let reply = ap (λ x. x.reply) is₁ in
         let has_settled : s.stage.outcome ≡ Settled = cc in
         let leak-is : leak ≡ leak_of s = cc in
         let over : is_open s.stage.outcome ≡ false = ap is_open has_settled in
         let end = f.ended over in
-        let checks-is = ap (λ x. x.checks) f.terms in
-        let kinds-is = f.kinds in
-        let count_is = f.count in
+        let checks-is = ap (λ x. x.checks) f.began.terms_are in
+        let kinds-is = f.began.kinds_are in
+        let count_is = f.on.count_is in
         let round_is = t.held.round in
         let leak-of : leak_of s ≡ (checks block.code - count_kind 1 block.plan.kinds) + (course rule block (reached h log)).count = cc in (
           shut,

@@ -1,5 +1,6 @@
 -- Adding a word to a key: where the word is 0 nothing changes, and bits that are gathered are added as the words are.
-use Rattle.std.proofs.Common.{◌≡◌, ℕ, zero, suc, ◌+◌, ◌%◌, ◌<◌, Bool, true, false, cond, List, [], ◌∷◌, ◌++◌, map, length, get_or, replicate, sym, refl, ap, ◌∙◌, ⊎_elim, arith}
+use Rattle.std.proofs.Common.{◌≡◌, ℕ, zero, suc, ◌+◌, ◌%◌, ◌<◌, Bool, true, List, [], ◌∷◌, ◌++◌, map, length, get_or, replicate, sym, refl, ap, ◌∙◌, ⊎_elim, arith}
+use Rattle.std.proofs.lemmas.Grind.{common_steps}
 use Rattle.std.proofs.lemmas.List.{length-append, ext_get_or, get_or_append_left, append-nil, length_push, get_or_push, get_or-replicate}
 use Rattle.std.proofs.lemmas.List.FromFn.{get_or-map-range_with_len, length-map-range_with_len}
 use Rattle.std.proofs.lemmas.Bool.{cases_lt}
@@ -18,9 +19,7 @@ added-within a b i h = get_or-map-range_with_len (λ k. (get_or a k 0 + get_or b
 
 -- a bit where the word is 0
 pub same_bit : (n : ℕ) (key word : List ℕ) → IsKey n key → (i : ℕ) → i < n → get_or word i 0 ≡ 0 → get_or (added key word) i 0 ≡ get_or key i 0
-same_bit n key word k i h zero-there =
-    let l : i < length key = omega (arith, k.long) in
-    added-within key word i l ∙ omega (arith, k.bits i h, zero-there)
+same_bit n key word k i h zero-there = grind (arith, common_steps, added-within)
 
 pub added-bit : (a b : List ℕ) (i : ℕ) → i < length a → get_or (added a b) i 0 < 2
 added-bit a b i h = omega (arith, added-within a b i h)
@@ -39,24 +38,12 @@ pub gathered_cong : (test : ℕ → Bool) (f g : ℕ → ℕ) (n : ℕ) → ((i 
     → gathered test f n ≡ gathered test g n
 unfolding gathered
 gathered_cong test f g zero h = refl
-gathered_cong test f g (suc n) h =
-    let rest = gathered_cong test f g n (λ i l. h i (omega arith)) in
-    go (test n) refl rest
-  where
-    go : (t : Bool) → test n ≡ t → gathered test f n ≡ gathered test g n
-        → gathered test f n ++ cond t (f n ∷ []) [] ≡ gathered test g n ++ cond t (g n ∷ []) []
-    go true e rest = let same = h n (omega arith) e in cc
-    go false e rest = cc
+gathered_cong test f g (suc n) h = grind (arith, common_steps, gathered_cong test f g n (λ i l. h i (omega arith)))
 
 pub gathered-length : (test : ℕ → Bool) (f g : ℕ → ℕ) (n : ℕ) → length (gathered test f n) ≡ length (gathered test g n)
 unfolding gathered
 gathered-length test f g zero = refl
-gathered-length test f g (suc n) = go (test n) (gathered-length test f g n)
-  where
-    go : (t : Bool) → length (gathered test f n) ≡ length (gathered test g n)
-        → length (gathered test f n ++ cond t (f n ∷ []) []) ≡ length (gathered test g n ++ cond t (g n ∷ []) [])
-    go true e = simp length-append (omega arith)
-    go false e = simp length-append (omega arith)
+gathered-length test f g (suc n) = grind (arith, common_steps, gathered-length test f g n, length-append)
 
 added_push : (xs ys : List ℕ) (a b : ℕ) → length xs ≡ length ys
     → added (xs ++ a ∷ []) (ys ++ b ∷ []) ≡ added xs ys ++ ((a + b) % 2) ∷ []
@@ -89,17 +76,5 @@ pub gathered-added : (test : ℕ → Bool) (f w g : ℕ → ℕ) (n : ℕ) → (
     → gathered test g n ≡ added (gathered test f n) (gathered test w n)
 unfolding gathered
 gathered-added test f w g zero h = refl
-gathered-added test f w g (suc n) h = go (test n) (gathered-added test f w g n (λ i l. h i (omega arith)))
-  where
-    go : (t : Bool) → gathered test g n ≡ added (gathered test f n) (gathered test w n)
-        → gathered test g n ++ cond t (g n ∷ []) []
-        ≡ added (gathered test f n ++ cond t (f n ∷ []) []) (gathered test w n ++ cond t (w n ∷ []) [])
-    go true e =
-        let here = h n (omega arith) in
-        let push = added_push (gathered test f n) (gathered test w n) (f n) (w n) (gathered-length test f w n) in
-        cc
-    go false e =
-        let p = append-nil (gathered test g n) in
-        let q = append-nil (gathered test f n) in
-        let r = append-nil (gathered test w n) in
-        cc
+gathered-added test f w g (suc n) h =
+    grind (arith, common_steps, gathered-added test f w g n (λ i l. h i (omega arith)), added_push, gathered-length, append-nil)

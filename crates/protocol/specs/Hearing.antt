@@ -1,10 +1,10 @@
 -- Hearing a frame.
 use Rattle.std.specs.Prelude.{ℕ, Bool, true, cond, not, ◌&&◌, ◌||◌, List, length, Ok, Err, Result, ◌==◌, nat_lt, slice_index}
 use Rattle.frames.specs.Shape.{FrameShape, syndrome_frame, disclosure_frame}
-use Rattle.frames.specs.Numbers.{place_of}
+use Rattle.frames.specs.Numbers.{frame_told}
 use Rattle.frames.specs.Reading.{read_shape}
 use Rattle.frames.specs.Writing.{map_of, gathered, in_round}
-use Rattle.frames.specs.declared.refusal.Refusal.{Refusal}
+use Rattle.frames.specs.declared.refusal.FrameRefusal.{FrameRefusal}
 use Rattle.protocol.specs.Counting.{tally, same, list_of}
 use Rattle.protocol.specs.State.{State}
 use Rattle.protocol.specs.Calls.{Done, Reply, refused, hears}
@@ -16,7 +16,7 @@ abbrev pub awaits : State → ℕ → Bool
 awaits s r = r == s.stage.round && not s.stage.heard
 
 abbrev pub stage_heard : Stage → Stage
-stage_heard g = record { round = g.round; named = g.named; heard = true; outcome = g.outcome }
+stage_heard g = record g { heard = true }
 
 -- the values of a round, each at its position; elsewhere what was there
 unfoldable pub spread : (ℕ → Bool) → List ℕ → List ℕ → List ℕ
@@ -25,32 +25,11 @@ spread test values before =
 
 -- the state once the present round's frame is heard
 unfoldable pub heard_syndrome : State → List ℕ → State
-heard_syndrome s bits =
-    record {
-      terms = s.terms;
-      stage = stage_heard s.stage;
-      kinds = s.kinds;
-      key = s.key;
-      own_syndrome = s.own_syndrome;
-      rounds = s.rounds;
-      their_syndrome = bits;
-      their_bits = s.their_bits;
-      pattern = s.pattern;
-    }
+heard_syndrome s bits = record s { stage = stage_heard s.stage; their_syndrome = bits }
 
 unfoldable pub heard_values : State → ℕ → List ℕ → State
 heard_values s r values =
-    record {
-      terms = s.terms;
-      stage = stage_heard s.stage;
-      kinds = s.kinds;
-      key = s.key;
-      own_syndrome = s.own_syndrome;
-      rounds = s.rounds;
-      their_syndrome = s.their_syndrome;
-      their_bits = spread (in_round r s.rounds) values s.their_bits;
-      pattern = s.pattern;
-    }
+    record s { stage = stage_heard s.stage; their_bits = spread (in_round r s.rounds) values s.their_bits }
 
 abbrev pub stays : State → Reply → Done State
 stays s reply = record { held = s; reply = reply }
@@ -74,9 +53,9 @@ hear_shape s (disclosure_frame side block r map values) =
     (stays s (refused 16 r))))
 
 -- bytes that are no frame are 13 at the first byte at fault
-abbrev pub hear_read : State → Result FrameShape Refusal → Done State
+abbrev pub hear_read : State → Result FrameShape FrameRefusal → Done State
 hear_read s (Ok shape) = hear_shape s shape
-hear_read s (Err fault) = stays s (refused 13 (place_of fault))
+hear_read s (Err fault) = stays s (refused 13 (frame_told fault).place)
 
 unfoldable pub hear_done : State → List ℕ → Done State
 hear_done s bytes = hear_read s (read_shape s.terms.width s.terms.checks bytes)

@@ -17,16 +17,7 @@ pub record Plan : Type 0 where
 
 -- the plan of the other end differs in its side alone
 abbrev pub with_side : ℕ → Plan → Plan
-with_side side p =
-    record {
-      block = p.block;
-      side = side;
-      matrix = p.matrix;
-      kinds = p.kinds;
-      class = p.class;
-      step = p.step;
-      cap = p.cap;
-    }
+with_side side p = record p { side = side }
 
 abbrev pub has_kind : ℕ → List ℕ → ℕ → Bool
 has_kind kind kinds i = slice_index kinds i == kind

@@ -78,9 +78,3 @@ is_open Open = true
 is_open Settled = false
 is_open Spent = false
 is_open Clashed = false
-
-abbrev pub is_settled : Outcome → Bool
-is_settled Open = false
-is_settled Settled = true
-is_settled Spent = false
-is_settled Clashed = false

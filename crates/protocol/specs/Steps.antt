@@ -2,10 +2,11 @@
 use Rattle.std.specs.Prelude.{ℕ, Bool, cond, List, length, Some, None, Option, nat_lt}
 use Rattle.codes.specs.Code.{Code}
 use Rattle.decoders.specs.Decoding.{Rule}
+use Rattle.ledger.specs.Lines.{is_settled}
 use Rattle.frames.specs.Format.{frame_bytes}
 use Rattle.frames.specs.Writing.{laid}
 use Rattle.protocol.specs.Plan.{Plan, plan_fits, wrong_key, count_kind}
-use Rattle.protocol.specs.State.{State, Held, idle, opened, begun, frame_of, leak_of, agreed_bit, raw_bits, is_settled}
+use Rattle.protocol.specs.State.{State, Held, idle, opened, begun, frame_of, leak_of, agreed_bit, raw_bits}
 use Rattle.protocol.specs.Calls.{Call, Reply, Done, open_call, say_call, hear_call, turn_call, key_call, close_call, refused, no_memory, begins, says, writes, closes}
 use Rattle.protocol.specs.Hearing.{stays, hear_done}
 use Rattle.protocol.specs.Turning.{turn_done}

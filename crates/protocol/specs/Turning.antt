@@ -33,37 +33,20 @@ judged_now rule s code = judged rule s.terms.step (s.terms.cap - s.stage.named) 
 
 -- a finish keeps the round
 abbrev pub finished : Stage → Outcome → Stage
-finished g outcome = record { round = g.round; named = g.named; heard = g.heard; outcome = outcome }
+finished g outcome = record g { outcome = outcome }
 
 -- positions named are disclosed in the next round, whose frame is yet to be heard
 abbrev pub marked : ℕ → List ℕ → List ℕ → List ℕ
 marked round map rounds = list_of (length rounds) (λ i. cond (slice_index map i == 1) round (slice_index rounds i))
 
 unfoldable pub concluded : State → Outcome → List ℕ → State
-concluded s outcome pattern =
-    record {
-      terms = s.terms;
-      stage = finished s.stage outcome;
-      kinds = s.kinds;
-      key = s.key;
-      own_syndrome = s.own_syndrome;
-      rounds = s.rounds;
-      their_syndrome = s.their_syndrome;
-      their_bits = s.their_bits;
-      pattern = pattern;
-    }
+concluded s outcome pattern = record s { stage = finished s.stage outcome; pattern = pattern }
 
 unfoldable pub disclosing : State → List ℕ → List ℕ → State
 disclosing s map pattern =
-    record {
-      terms = s.terms;
+    record s {
       stage = record { round = s.stage.round + 1; named = s.stage.named + sum map; heard = false; outcome = Open };
-      kinds = s.kinds;
-      key = s.key;
-      own_syndrome = s.own_syndrome;
       rounds = marked (s.stage.round + 1) map s.rounds;
-      their_syndrome = s.their_syndrome;
-      their_bits = s.their_bits;
       pattern = pattern;
     }
 

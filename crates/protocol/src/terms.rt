@@ -1,6 +1,7 @@
 use ledger::Outcome;
 
 // What is fixed of an end when it opens.
+// Stays: the side is a number, a rule of the project for plans, of which this is a part.
 #[derive(Clone, Copy)]
 pub struct Terms {
     pub block: u32,

@@ -1,22 +1,23 @@
-// The program's state: the matrices kept under their numbers.
-use crate::command::{Asked, Choice, Command, Kind, read_command};
-use crate::decoding::ask_choices;
-use crate::words::{spell_bits, spell_run};
+// The program's state: the matrices kept under their numbers, the tables and the decoders chosen.
+use crate::command::{Asked, Choice, Command, Kind, Tables, read_command};
+use crate::decoding::decode;
+use crate::error::LineError;
+use crate::spelling::{refused, spell_bits, spell_run};
 use check_rules::{TableRefusal, TableRule};
 use codes::Matrix;
 use frames::{Frame, read};
+use refusals::Refusal;
 use std::alloc::{AllocError, Global};
 use std::collections::BTreeMap;
 
-// A longer buffer is written no further: no matrix has more checks.
-const LONGEST_SYNDROME: usize = 1024;
-
-// Tables that were admitted.
-#[derive(Drop)]
-pub struct Tables {
-    f2a: Vec<u16>,
-    a2f: Vec<u16>,
-    raw: Vec<u16>,
+impl Tables {
+    fn rule(&self) -> Result<TableRule<'_>, TableRefusal> {
+        TableRule::admit(
+            self.f2a.as_slice(),
+            self.a2f.as_slice(),
+            self.raw.as_slice(),
+        )
+    }
 }
 
 #[derive(Drop)]
@@ -35,84 +36,63 @@ impl Desk {
         }
     }
 
-    // What to print of a line, or None where it is not understood.
-    pub fn reply(&mut self, heap: Global, line: &str) -> Result<Option<String>, AllocError> {
-        match read_command(heap, line)? {
-            Some(Command::Matrix(id, n, m, positions, ends)) => self.admit(
-                heap, id, n, m, positions, ends,
-            ),
-            Some(Command::Syndrome(id, key, room)) => self.syndrome(heap, id, key.as_slice(), room),
-            Some(Command::Frame(n, m, bytes)) => frame(heap, n, m, bytes.as_slice()),
-            Some(Command::Tables(f2a, a2f, raw)) => self.keep_tables(heap, f2a, a2f, raw),
-            Some(Command::Decoder(choices)) => self.choose(heap, line, choices),
-            Some(Command::Decode(asked)) => self.decode(heap, &asked),
-            None => Ok(None),
-        }
-    }
-
-    fn admit(
-        &mut self,
-        heap: Global,
-        id: u32,
-        n: usize,
-        m: usize,
-        positions: Vec<u16>,
-        ends: Vec<u16>,
-    ) -> Result<Option<String>, AllocError> {
-        let entries = positions.len();
-        match Matrix::admit(id, n, m, positions, ends) {
-            Ok(matrix) => {
-                self.matrices.insert(id, matrix)?;
-                Ok(Some(format!(in heap;
-                    "matrix {id}: {n} positions, {m} checks, {entries} entries"
-                )?))
+    // What to print of a line.
+    pub fn reply(&mut self, heap: Global, line: &str) -> Result<String, LineError> {
+        let text = match read_command(heap, line)? {
+            Command::Matrix {
+                id,
+                n,
+                m,
+                positions,
+                ends,
+            } => match Matrix::admit(id, n, m, positions, ends) {
+                Ok(matrix) => self.keep_matrix(heap, matrix)?,
+                Err(refusal) => refused(heap, "matrix", refusal.told())?,
+            },
+            Command::Syndrome { id, key, room } => spell_syndrome(
+                heap,
+                self.matrix(id)?,
+                key.as_slice(),
+                room,
+            )?,
+            Command::Frame { n, m, bytes } => match read(n, m, bytes.as_slice()) {
+                Ok(frame) => spell_frame(heap, &frame)?,
+                Err(refusal) => refused(heap, "frame", refusal.told())?,
+            },
+            Command::Tables(tables) => self.keep_tables(heap, tables)?,
+            Command::Decoder(choices) => self.choose(heap, line, choices)?,
+            Command::Decode(asked) => {
+                let matrix = self.matrix(asked.matrix)?;
+                let rule = self.tables.as_ref().and_then(|tables| tables.rule().ok());
+                decode(heap, self.choices.as_slice(), rule, matrix, &asked)?
             }
-            Err(refusal) => {
-                let number = refusal.number();
-                let place = refusal.place();
-                Ok(Some(format!(in heap; "matrix refused {number} {place}")?))
-            }
-        }
-    }
-
-    fn syndrome(
-        &self,
-        heap: Global,
-        id: u32,
-        key: &[u8],
-        room: usize,
-    ) -> Result<Option<String>, AllocError> {
-        let Some(matrix) = self.matrices.get(&id) else {
-            return Ok(None);
         };
-        let mut buffer = vec![in heap; 0u8; room.min(LONGEST_SYNDROME)]?;
-        match matrix.syndrome(key, buffer.as_mut_slice()) {
-            Ok(()) => {
-                let bits = spell_bits(heap, &buffer[0..matrix.checks()])?;
-                Ok(Some(format!(in heap; "syndrome {bits}")?))
-            }
-            Err(refusal) => {
-                let number = refusal.number();
-                let place = refusal.place();
-                Ok(Some(format!(in heap; "syndrome refused {number} {place}")?))
-            }
-        }
+        Ok(text)
     }
 
-    fn keep_tables(
-        &mut self,
-        heap: Global,
-        f2a: Vec<u16>,
-        a2f: Vec<u16>,
-        raw: Vec<u16>,
-    ) -> Result<Option<String>, AllocError> {
-        if let Err(refusal) = TableRule::admit(f2a.as_slice(), a2f.as_slice(), raw.as_slice()) {
-            return Ok(Some(refused_tables(heap, refusal)?));
+    fn matrix(&self, id: u32) -> Result<&Matrix, LineError> {
+        self.matrices.get(&id).ok_or(LineError::NotUnderstood)
+    }
+
+    fn keep_matrix(&mut self, heap: Global, matrix: Matrix) -> Result<String, AllocError> {
+        let id = matrix.number();
+        let text = format!(in heap;
+            "matrix {id}: {} positions, {} checks, {} entries",
+            matrix.width(),
+            matrix.checks(),
+            matrix.positions().len()
+        )?;
+        self.matrices.insert(id, matrix)?;
+        Ok(text)
+    }
+
+    fn keep_tables(&mut self, heap: Global, tables: Tables) -> Result<String, AllocError> {
+        if let Err(refusal) = tables.rule() {
+            return refused(heap, "tables", refusal.told());
         }
-        let mf = f2a.len();
-        let ma = a2f.len();
-        self.tables = Some(Tables { f2a, a2f, raw });
-        Ok(Some(format!(in heap; "tables {mf} {ma}")?))
+        let text = format!(in heap; "tables {} {}", tables.f2a.len(), tables.a2f.len())?;
+        self.tables = Some(tables);
+        Ok(text)
     }
 
     fn choose(
@@ -120,80 +100,47 @@ impl Desk {
         heap: Global,
         line: &str,
         choices: Vec<Choice>,
-    ) -> Result<Option<String>, AllocError> {
-        if self.tables.is_none() && names_table(choices.as_slice()) {
-            return Ok(None);
+    ) -> Result<String, LineError> {
+        if self.tables.is_none() && choices.iter().any(|choice| choice.kind == Kind::Table) {
+            return Err(LineError::NotUnderstood);
         }
         self.choices = choices;
-        Ok(Some(String::from_str(heap, line)?))
-    }
-
-    fn decode(&self, heap: Global, asked: &Asked) -> Result<Option<String>, AllocError> {
-        let Some(matrix) = self.matrices.get(&asked.matrix) else {
-            return Ok(None);
-        };
-        let rule = match &self.tables {
-            Some(tables) => TableRule::admit(
-                tables.f2a.as_slice(),
-                tables.a2f.as_slice(),
-                tables.raw.as_slice(),
-            )
-            .ok(),
-            None => None,
-        };
-        Ok(Some(ask_choices(heap, self.choices.as_slice(), rule, matrix, asked)?))
+        Ok(String::from_str(heap, line)?)
     }
 }
 
-fn refused_tables(heap: Global, refusal: TableRefusal) -> Result<String, AllocError> {
-    let number = refusal.number();
-    let table = refusal.table();
-    let entry = refusal.entry();
-    if number == 6 {
-        format!(in heap; "tables refused 6 {table} {entry}")
-    } else {
-        format!(in heap; "tables refused {number} 0")
+// Of a longer buffer the call gets the front that it writes.
+fn spell_syndrome(
+    heap: Global,
+    matrix: &Matrix,
+    key: &[u8],
+    room: usize,
+) -> Result<String, AllocError> {
+    let mut buffer = vec![in heap; 0u8; room.min(matrix.checks())]?;
+    match matrix.syndrome(key, buffer.as_mut_slice()) {
+        Ok(()) => format!(in heap; "syndrome {}", spell_bits(heap, buffer.as_slice())?),
+        Err(refusal) => refused(heap, "syndrome", refusal.told()),
     }
 }
 
-fn names_table(choices: &[Choice]) -> bool {
-    for choice in choices {
-        if choice.kind == Kind::Table {
-            return true;
-        }
-    }
-    false
-}
-
-fn frame(heap: Global, n: usize, m: usize, bytes: &[u8]) -> Result<Option<String>, AllocError> {
-    match read(n, m, bytes) {
-        Ok(Frame::Syndrome { side, block, bits }) => {
-            let side = side.number();
-            let bits = spell_run(heap, &bits)?;
-            Ok(Some(format!(in heap;
-                "frame syndrome side {side} block {block} round 0 bits {bits}"
-            )?))
-        }
-        Ok(
-            Frame::Disclosure {
-                side,
-                block,
-                round,
-                map,
-                values,
-            },
-        ) => {
-            let side = side.number();
-            let map = spell_run(heap, &map)?;
-            let values = spell_run(heap, &values)?;
-            Ok(Some(format!(in heap;
-                "frame disclosure side {side} block {block} round {round} map {map} values {values}"
-            )?))
-        }
-        Err(refusal) => {
-            let number = refusal.number();
-            let place = refusal.place();
-            Ok(Some(format!(in heap; "frame refused {number} {place}")?))
-        }
+fn spell_frame(heap: Global, frame: &Frame<'_>) -> Result<String, AllocError> {
+    match frame {
+        Frame::Syndrome { side, block, bits } => format!(in heap;
+            "frame syndrome side {} block {block} round 0 bits {}",
+            u8::from(*side),
+            spell_run(heap, bits)?
+        ),
+        Frame::Disclosure {
+            side,
+            block,
+            round,
+            map,
+            values,
+        } => format!(in heap;
+            "frame disclosure side {} block {block} round {round} map {} values {}",
+            u8::from(*side),
+            spell_run(heap, map)?,
+            spell_run(heap, values)?
+        ),
     }
 }

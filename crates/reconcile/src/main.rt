@@ -1,58 +1,47 @@
 #![tactic(auto)]
 
 // Replays a script of calls from standard input and prints what each did.
+ghost use Rattle.std.specs.Prelude.{◌↔◌, IsTrue};
+ghost use Rattle.reconcile.specs.Lines.{IsPassedOver};
+
 mod command;
 mod decoding;
 mod desk;
+mod error;
+mod spelling;
 mod words;
 
 use desk::Desk;
+use error::LineError;
+use std::alloc::Global;
 use std::io;
 use std::io::{BufRead, BufReader};
 use std::str::from_utf8;
 
-// What a line says, without its line end; text that is no UTF-8 is no command.
-fn print_reply(rt: &HostRuntime, desk: &mut Desk, count: u64, line: &[u8]) -> io::Result<()> {
-    let reply = match from_utf8(line) {
-        Ok(text) => desk.reply(rt.alloc(), text)?,
-        Err(_) => None,
-    };
-    match reply {
-        Some(text) => println!(rt; "{text}"),
-        None => println!(rt; "line {count} not understood"),
-    }
+// What a line says, without its line end.
+fn reply(desk: &mut Desk, heap: Global, line: &[u8]) -> Result<String, LineError> {
+    desk.reply(heap, from_utf8(line)?)
 }
 
-fn is_passed_over(line: &[u8]) -> bool {
-    match line {
-        [] => true,
-        [first, ..] => *first == b'#' || is_blank(line),
-    }
-}
-
-fn is_blank(line: &[u8]) -> bool {
-    for b in line {
-        if *b != b' ' {
-            return false;
-        }
-    }
-    true
+// A comment, or nothing but spaces.
+fn is_passed_over(line: &[u8]) -> bool
+    ensures { IsTrue result ↔ IsPassedOver line.now }
+{
+    line.first() == Some(&b'#') || line.iter().all(|b| *b == b' ')
 }
 
 fn main(rt: HostRuntime) -> io::Result<()> {
     let mut desk = Desk::new(rt.alloc());
-    let mut input = BufReader::new(rt.alloc(), rt.stdin())?;
-    let mut line = Vec::new(rt.alloc());
-    for count in 1..u64::MAX {
-        line.clear();
-        if input.read_until(b'\n', &mut line)? == 0 {
-            break;
+    let input = BufReader::new(rt.alloc(), rt.stdin())?;
+    for (line, count) in input.split(rt.alloc(), b'\n').zip(1u64..) {
+        let line = line?;
+        if is_passed_over(line.as_slice()) {
+            continue;
         }
-        if line.last() == Some(&b'\n') {
-            let _ = line.pop();
-        }
-        if !is_passed_over(line.as_slice()) {
-            print_reply(&rt, &mut desk, count, line.as_slice())?;
+        match reply(&mut desk, rt.alloc(), line.as_slice()) {
+            Ok(text) => println!(rt; "{text}")?,
+            Err(LineError::NotUnderstood) => println!(rt; "line {count} not understood")?,
+            Err(LineError::NoMemory(error)) => return Err(error.into()),
         }
     }
     Ok(())

@@ -1,145 +1,114 @@
-// The words of a script line: numbers, runs of numbers, digits.
+// The words of a script line: numbers, and lists of numbers, digits, states or bytes.
+ghost use Rattle.std.specs.Prelude.{◌≡◌, ◌≢◌, ◌<◌, ℕ, [], Ok, Err, length, codes, IfOk, IfErr, IsOkAnd, MatchResult};
+ghost use Rattle.std.specs.Char.{is_ascii_digit};
+ghost use Rattle.std.specs.Iterator.{IsFinite};
+ghost use Rattle.std.specs.Iterator.Runs.{SomeRun, WholeRun, AnyItem};
+ghost use Rattle.std.specs.List.{AllPass, AllZip};
+ghost use Rattle.decoders.specs.declared.state.State.{State};
+ghost use Rattle.reconcile.specs.Words.{IsJustRead, OrDash, IsNumber, IsDigit, IsLetter, IsHexadecimal, ReadAs, parts};
+
+use crate::error::LineError;
 use decoders::State;
-use runs::Run;
-use std::alloc::{AllocError, Global};
+use std::alloc::Global;
+use std::str::FromStr;
 
 // A number in decimal digits alone, so no sign.
-pub fn number(word: &str) -> Option<u64> {
-    if word.starts_with('+') {
-        return None;
+pub fn number<T: FromStr>(word: &str) -> Result<T, LineError>
+where
+    T::Err: Drop,
+    ensures { MatchResult result
+        (λ x. AllPass is_ascii_digit word.now × T.from_str_gives word.now (Ok x))
+        (λ e. (e ≡ LineError.NotUnderstood)
+        × (AllPass is_ascii_digit word.now → (f : T.Err) × T.from_str_gives word.now (Err f))) }
+{
+    if !word.bytes().all(|b| b.is_ascii_digit()) {
+        return Err(LineError::NotUnderstood);
     }
-    word.parse::<u64>().ok()
+    word.parse().map_err(|_| LineError::NotUnderstood)
 }
 
-pub fn number32(word: &str) -> Option<u32> {
-    match number(word) {
-        Some(x) => u32::try_from(x).ok(),
-        None => None,
+// What the parts of a word stand for; the empty list is a dash.
+fn list<T: Drop, P: Iterator + Drop, F: Fn(P::Item) -> Result<T, LineError> + Drop>(
+    heap: Global,
+    word: &str,
+    parts: P,
+    read: F,
+) -> Result<Vec<T>, LineError>
+    requires can { P.can_next parts }
+    requires ends { IsFinite (P.remaining parts) }
+    requires callable { (f : F) (part : _) → F.pre f part }
+    ensures some { IfOk result (λ _. 0 < length word.now) }
+    ensures dash { word.now ≡ codes "-" → IsOkAnd result (λ v. v.items ≡ []) }
+    ensures other { word.now ≢ codes "-" → IfOk result (λ v.
+        WholeRun P.next_gives parts (ReadAs (λ part x. F.post read part (Ok x)) v.items)) }
+    ensures refused { IfErr result (λ e. e ≡ LineError.NotUnderstood → 0 < length word.now
+        → SomeRun P.next_gives parts (λ p. AnyItem p (λ part. F.post read part (Err e)))) }
+{
+    match word {
+        "-" => Ok(Vec::new(heap)),
+        "" => Err(LineError::NotUnderstood),
+        _ => parts.map(read).try_collect(heap),
     }
 }
 
-fn number16(word: &str) -> Option<u16> {
-    match number(word) {
-        Some(x) => u16::try_from(x).ok(),
-        None => None,
+// A run such as 3,6,9.
+pub fn run(heap: Global, word: &str) -> Result<Vec<u16>, LineError>
+    ensures { IsJustRead (OrDash word.now (AllZip IsNumber (parts word.now))) result }
+{
+    list(heap, word, word.split(','), number)
+}
+
+fn digit(letter: u8) -> Result<u8, LineError>
+    ensures { MatchResult result
+        (IsDigit letter)
+        (λ e. (e ≡ LineError.NotUnderstood) × ((x : ℕ) → IsDigit letter x → ⊥)) }
+{
+    if letter.is_ascii_digit() {
+        Ok(letter - b'0')
+    } else {
+        Err(LineError::NotUnderstood)
     }
 }
 
-// A run such as 3,6,9; the empty one is a dash.
-pub fn run(heap: Global, word: &str) -> Result<Option<Vec<u16>>, AllocError> {
-    let mut numbers = Vec::new(heap);
-    if word == "-" {
-        return Ok(Some(numbers));
-    }
-    for part in word.split(',') {
-        match number16(part) {
-            Some(x) => numbers.push(x)?,
-            None => return Ok(None),
-        }
-    }
-    Ok(Some(numbers))
+// A digit a place, such as 101100.
+pub fn digits(heap: Global, word: &str) -> Result<Vec<u8>, LineError>
+    ensures { IsJustRead (OrDash word.now (AllZip IsDigit word.now)) result }
+{
+    list(heap, word, word.bytes(), digit)
 }
 
-// A digit a place, such as 101100; the empty run is a dash.
-pub fn digits(heap: Global, word: &str) -> Result<Option<Vec<u8>>, AllocError> {
-    let mut places = Vec::new(heap);
-    if word == "-" {
-        return Ok(Some(places));
-    }
-    for b in word.as_bytes() {
-        match *b {
-            b'0'..=b'9' => places.push(*b - b'0')?,
-            _ => return Ok(None),
-        }
-    }
-    if places.is_empty() {
-        return Ok(None);
-    }
-    Ok(Some(places))
-}
-
-fn state_of(letter: u8) -> Option<State> {
+fn state(letter: u8) -> Result<State, LineError>
+    ensures { MatchResult result
+        (IsLetter letter)
+        (λ e. (e ≡ LineError.NotUnderstood) × ((s : State) → IsLetter letter s → ⊥)) }
+{
     match letter {
-        b'r' => Some(State::Raw),
-        b'p' => Some(State::Punctured),
-        b'0' => Some(State::Known0),
-        b'1' => Some(State::Known1),
-        _ => None,
+        b'r' => Ok(State::Raw),
+        b'p' => Ok(State::Punctured),
+        b'0' => Ok(State::Known0),
+        b'1' => Ok(State::Known1),
+        _ => Err(LineError::NotUnderstood),
     }
 }
 
-// A letter a position: r raw, p punctured, 0 and 1 known; the empty run is a dash.
-pub fn letters(heap: Global, word: &str) -> Result<Option<Vec<State>>, AllocError> {
-    let mut states = Vec::new(heap);
+// A letter a position: r raw, p punctured, 0 and 1 known.
+pub fn states(heap: Global, word: &str) -> Result<Vec<State>, LineError>
+    ensures { IsJustRead (OrDash word.now (AllZip IsLetter word.now)) result }
+{
+    list(heap, word, word.bytes(), state)
+}
+
+// Two hexadecimal digits a byte, in lower case.
+pub fn hexadecimal(heap: Global, word: &str) -> Result<Vec<u8>, LineError>
+    ensures { IsJustRead (OrDash word.now (IsHexadecimal word.now)) result }
+{
     if word == "-" {
-        return Ok(Some(states));
+        return Ok(Vec::new(heap));
     }
-    for b in word.as_bytes() {
-        match state_of(*b) {
-            Some(state) => states.push(state)?,
-            None => return Ok(None),
-        }
+    if word.is_empty() || word.bytes().any(|b| b.is_ascii_uppercase()) {
+        return Err(LineError::NotUnderstood);
     }
-    if states.is_empty() {
-        return Ok(None);
-    }
-    Ok(Some(states))
-}
-
-fn hex_digit(b: u8) -> Option<u8> {
-    match b {
-        b'0'..=b'9' => Some(b - b'0'),
-        b'a'..=b'f' => Some(b - b'a' + 10),
-        _ => None,
-    }
-}
-
-// Two hexadecimal digits a byte, in lower case; no bytes are a dash.
-pub fn hexadecimal(heap: Global, word: &str) -> Result<Option<Vec<u8>>, AllocError> {
-    let mut bytes = Vec::new(heap);
-    if word == "-" {
-        return Ok(Some(bytes));
-    }
-    let text = word.as_bytes();
-    if text.is_empty() || text.len() % 2 != 0 {
-        return Ok(None);
-    }
-    for k in 0..text.len() / 2 {
-        match (hex_digit(text[2 * k]), hex_digit(text[2 * k + 1])) {
-            (Some(high), Some(low)) => bytes.push(high.wrapping_mul(16) | low)?,
-            _ => return Ok(None),
-        }
-    }
-    Ok(Some(bytes))
-}
-
-// Bits as digits.
-pub fn spell_bits(heap: Global, bits: &[u8]) -> Result<String, AllocError> {
-    let mut text = String::new(heap);
-    for b in bits {
-        text.push(if *b == 0 { '0' } else { '1' })?;
-    }
-    Ok(text)
-}
-
-// The bits of a frame's run as digits; the empty run is a dash.
-pub fn spell_run(heap: Global, run: &Run<'_>) -> Result<String, AllocError> {
-    let mut text = String::new(heap);
-    for i in 0..run.len() {
-        text.push(if run.bit(i) == 0 { '0' } else { '1' })?;
-    }
-    if run.len() == 0 {
-        text.push('-')?;
-    }
-    Ok(text)
-}
-
-// Numbers behind single spaces.
-pub fn spell_numbers(heap: Global, numbers: &[u32]) -> Result<String, AllocError> {
-    let mut text = String::new(heap);
-    for x in numbers {
-        let shown = format!(in heap; " {x}")?;
-        text.push_str(shown.as_str())?;
-    }
-    Ok(text)
+    let mut bytes = vec![in heap; 0u8; word.len() / 2]?;
+    hex::decode_to_slice(word, bytes.as_mut_slice()).map_err(|_| LineError::NotUnderstood)?;
+    Ok(bytes)
 }

@@ -6,4 +6,9 @@ pub enum Kind {
     Shortened,
 }
 
+// A number that no kind has.
+// Stays: an error of its own, whose name says what the number is not of.
+#[derive(Clone, Copy, PartialEq, Eq, Debug)]
+pub struct UnknownKind(pub u8);
+
 mod methods;

@@ -4,5 +4,5 @@
 mod kind;
 mod refusal;
 
-pub use kind::Kind;
+pub use kind::{Kind, UnknownKind};
 pub use refusal::{CloseRefusal, HearRefusal, KeyRefusal, OpenRefusal, SayRefusal, TurnRefusal};

@@ -3,6 +3,7 @@ use Rattle.std.proofs.Common.{◌≡◌, ℕ, zero, suc, ◌+◌, ◌-◌, ◌*�
 use Rattle.std.proofs.lemmas.Nat.{mod-pow-add, pow_pos}
 use Rattle.std.proofs.lemmas.Bool.{cases_lt}
 use Rattle.runs.specs.Bits.{bit_at}
+use Rattle.std.proofs.lemmas.Grind.{common_steps}
 
 -- the byte of the bits f (8 q) to f (8 q + 7)
 abbrev pub byte_by : (ℕ → ℕ) → ℕ → ℕ
@@ -23,10 +24,7 @@ octal P a b c d e f g h (suc (suc (suc (suc (suc (suc (suc zero))))))) l = h
 octal P a b c d e f g h (suc (suc (suc (suc (suc (suc (suc (suc r)))))))) l = absurd (omega arith)
 
 pub byte_small : (f : ℕ → ℕ) → ((i : ℕ) → f i < 2) → (q : ℕ) → byte_by f q < 256
-byte_small f t q =
-    let t0 = t (8 * q) in let t1 = t (8 * q + 1) in let t2 = t (8 * q + 2) in let t3 = t (8 * q + 3) in
-    let t4 = t (8 * q + 4) in let t5 = t (8 * q + 5) in let t6 = t (8 * q + 6) in let t7 = t (8 * q + 7) in
-    omega arith
+byte_small f t q = grind (arith, common_steps)
 
 -- each bit is read back out of its byte
 pub bit_of_byte : (f : ℕ → ℕ) → ((i : ℕ) → f i < 2) → (q r : ℕ) → r < 8 → byte_by f q / 2 ^ (7 - r) % 2 ≡ f (8 * q + r)
@@ -39,9 +37,7 @@ bit_of_byte f t q =
 
 -- a byte is made of its bits
 pub byte_of_bits : (f : ℕ → ℕ) (q b : ℕ) → b < 256 → ((r : ℕ) → r < 8 → f (8 * q + r) ≡ b / 2 ^ (7 - r) % 2) → byte_by f q ≡ b
-byte_of_bits f q b small t =
-    let t0 : f (8 * q) ≡ b / 128 % 2 = simp add-zero at (t 0 (omega arith)) in
-    omega (arith, t 1 (omega arith), t 2 (omega arith), t 3 (omega arith), t 4 (omega arith), t 5 (omega arith), t 6 (omega arith), t 7 (omega arith))
+byte_of_bits f q b small t = grind (arith, common_steps)
 
 -- f and g agree but at L, where g has the bit b and f none
 abbrev pub Differ : (ℕ → ℕ) → (ℕ → ℕ) → ℕ → ℕ → ℕ → Type 0
@@ -52,26 +48,15 @@ pub byte_put : (f g : ℕ → ℕ) (L b : ℕ) → ((i : ℕ) → Differ f g L b
 byte_put f g L b t = go (L / 8) (L % 8) (omega arith) (omega arith)
   where
     go : (q r : ℕ) → r < 8 → L ≡ 8 * q + r → byte_by g q ≡ byte_by f q + b * 2 ^ (7 - r)
-    go q =
-        let t0 = t (8 * q) in let t1 = t (8 * q + 1) in let t2 = t (8 * q + 2) in let t3 = t (8 * q + 3) in
-        let t4 = t (8 * q + 4) in let t5 = t (8 * q + 5) in let t6 = t (8 * q + 6) in let t7 = t (8 * q + 7) in
-        octal (λ r. L ≡ 8 * q + r → byte_by g q ≡ byte_by f q + b * 2 ^ (7 - r))
-        (λ e. omega arith) (λ e. omega arith) (λ e. omega arith) (λ e. omega arith)
-        (λ e. omega arith) (λ e. omega arith) (λ e. omega arith) (λ e. omega arith)
+    go q = grind (arith, common_steps, octal)
 
 -- and every other byte stays
 pub byte_kept : (f g : ℕ → ℕ) (L b : ℕ) → ((i : ℕ) → Differ f g L b i) → (q : ℕ) → (q ≡ L / 8 → ⊥) → byte_by g q ≡ byte_by f q
-byte_kept f g L b t q ne =
-    let t0 = t (8 * q) in let t1 = t (8 * q + 1) in let t2 = t (8 * q + 2) in let t3 = t (8 * q + 3) in
-    let t4 = t (8 * q + 4) in let t5 = t (8 * q + 5) in let t6 = t (8 * q + 6) in let t7 = t (8 * q + 7) in
-    omega arith
+byte_kept f g L b t q ne = grind (arith, common_steps)
 
 -- the bits of byte q
 pub bit_at_split : (bytes : List ℕ) (q r : ℕ) → r < 8 → bit_at bytes (8 * q + r) ≡ get_or bytes q 0 / 2 ^ (7 - r) % 2
-bit_at_split bytes q r l =
-    let d : (8 * q + r) / 8 ≡ q = omega arith in
-    let m : (8 * q + r) % 8 ≡ r = omega arith in
-    cc
+bit_at_split bytes q r l = grind (arith, common_steps)
 
 -- where the low s bits are 0, each of them is
 pub low_bit : (b s t : ℕ) → t < s → b % 2 ^ s ≡ 0 → b / 2 ^ t % 2 ≡ 0

@@ -1,9 +1,8 @@
 -- Packing a run of bits and unpacking it are inverse, and a packed run grows bit by bit.
-use Rattle.std.proofs.Common.{◌≡◌, ℕ, ◌+◌, ◌-◌, ◌*◌, ◌/◌, ◌%◌, ◌^◌, ◌<◌, ◌≤◌, ◌⊎◌, List, [], ◌∷◌, ◌++◌, map, length, get_or, take, set, sum, sym, refl, ap, ◌∙◌, inl, inr, ⊎_elim, arith}
-use native.Mathlib.Nat.{zero-div}
-use Rattle.std.proofs.lemmas.List.FromFn.{length-map-range_with_len, get_or-map-range_with_len, map-range_with_len_more, fill_by_all}
-use Rattle.std.proofs.lemmas.List.{ext_get_or, get_or_past, get_or_append_left, get_or_push, length_push, length-set, get_or-set_same, get_or-set_other, length-map, get_or-map, get_or-take}
-use Rattle.std.proofs.lemmas.List.Sums.{sum_by_push}
+use Rattle.std.proofs.Common.{◌≡◌, ℕ, ◌+◌, ◌-◌, ◌*◌, ◌/◌, ◌%◌, ◌^◌, ◌<◌, ◌≤◌, ◌⊎◌, List, [], ◌∷◌, ◌++◌, map, length, get_or, take, set, replicate, fold, cond, eqb, sym, refl, ap, ◌∙◌, inl, inr, ⊎_elim, arith}
+use Rattle.std.proofs.lemmas.List.FromFn.{length-map-range_with_len, get_or-map-range_with_len, fill_by_all}
+use Rattle.std.proofs.lemmas.List.{ext_get_or, get_or_past, get_or_append_left, get_or_push, length_push, length-set, get_or-set_same, get_or-set_other, length-map, get_or-map, get_or-take, length-replicate, get_or-replicate}
+use Rattle.std.proofs.lemmas.Grind.{common_steps}
 use Rattle.std.proofs.lemmas.Bool.{cases_lt, cases_eq}
 use Rattle.codes.specs.Places.{AllBelow}
 use Rattle.runs.specs.Bits.{bit_of, bit_at, bytes_for, unpacked, packed, packed_byte, packed_to, unused, SoundByte, IsBits, IsBytes, IsRun}
@@ -20,22 +19,8 @@ get_or-unpacked w bytes i l = get_or-map-range_with_len (bit_at bytes) 0 w i i 0
 pub get_or-unpacked_past : (w : ℕ) (bytes : List ℕ) (i : ℕ) → w ≤ i → get_or (unpacked w bytes) i 0 ≡ 0
 get_or-unpacked_past w bytes i l = get_or_past (unpacked w bytes) i 0 (omega (arith, length-unpacked w bytes))
 
-pub unpacked_more : (w : ℕ) (bytes : List ℕ) → unpacked (w + 1) bytes ≡ unpacked w bytes ++ bit_at bytes w ∷ []
-unfolding unpacked
-unpacked_more w bytes = map-range_with_len_more (bit_at bytes) 0 w w (omega arith)
-
 pub unpacked-bits : (w : ℕ) (bytes : List ℕ) → IsBits (unpacked w bytes)
-unpacked-bits w bytes i =
-    ⊎_elim (λ l. omega (arith, get_or-unpacked w bytes i l)) (λ l. omega (arith, get_or-unpacked_past w bytes i l)) (cases_lt i w)
-
-pub bit_at_past : (bytes : List ℕ) (i : ℕ) → length bytes ≤ i / 8 → bit_at bytes i ≡ 0
-bit_at_past bytes i l = let e = get_or_past bytes (i / 8) 0 l in rw e (zero_div_mod (2 ^ (7 - i % 8)))
-  where
-    zero_div_mod : (d : ℕ) → 0 / d % 2 ≡ 0
-    zero_div_mod d = rw (zero-div d)
-
-pub sum-unpacked_more : (w : ℕ) (bytes : List ℕ) → sum (unpacked (w + 1) bytes) ≡ sum (unpacked w bytes) + bit_at bytes w
-sum-unpacked_more w bytes = ap sum (unpacked_more w bytes) ∙ sum_by_push (λ x. x) (unpacked w bytes) (bit_at bytes w)
+unpacked-bits w bytes i = grind (arith, common_steps, cases_lt, get_or-unpacked, get_or-unpacked_past)
 
 pub length-packed_to : (k : ℕ) (bits : List ℕ) → length (packed_to k bits) ≡ k
 unfolding packed_to
@@ -105,10 +90,7 @@ module _ (xs : List ℕ) (b : ℕ) where
   differ i = ⊎_elim (λ e. inl (e, get_or_past xs i 0 (omega arith), get_or_push xs b 0 i (sym e))) (λ ne. inr (ne, other ne)) (cases_eq i (length xs))
     where
       other : (i ≡ length xs → ⊥) → get_or (xs ++ b ∷ []) i 0 ≡ get_or xs i 0
-      other ne =
-          ⊎_elim (λ l. get_or_append_left xs (b ∷ []) 0 i l)
-          (λ l. get_or_past (xs ++ b ∷ []) i 0 (omega (arith, length_push xs b)) ∙ sym (get_or_past xs i 0 l))
-          (cases_lt i (length xs))
+      other ne = grind (arith, common_steps, cases_lt, get_or_append_left, get_or_past, length_push)
 
   pub push_bits : IsBits xs → b < 2 → IsBits (xs ++ b ∷ [])
   push_bits small l i = let d = differ i in let s = small i in omega arith
@@ -153,6 +135,9 @@ module _ (xs : List ℕ) (b : ℕ) where
     pub packed_to_put : set (packed_to k xs) (length xs / 8) ((get_or (packed_to k xs) (length xs / 8) 0 + b * 2 ^ (7 - length xs % 8)) % 256) ≡ packed_to k (xs ++ b ∷ [])
     packed_to_put = grown _ grown_byte
 
+-- what a run's methods read
+pub ruleset read = (length-unpacked, get_or-unpacked, get_or-unpacked_past)
+
 -- the same of bytes that are known to be a packed run, as the code adds the bit
 pub put_packed : (k : ℕ) (out bits : List ℕ) (at b : ℕ) → IsBits bits → b < 2 → at < 8 * k → length bits ≡ at → out ≡ packed_to k bits
     → set out (at / 8) ((get_or out (at / 8) 0 + b * 2 ^ (7 - at % 8) % 256) % 256) ≡ packed_to k (bits ++ b ∷ [])
@@ -163,6 +148,9 @@ put_packed k out bits at b small l fit e is =
     let sum : (get_or out (at / 8) 0 + b * 2 ^ (7 - at % 8) % 256) % 256 ≡ (get_or (packed_to k bits) (length bits / 8) 0 + b * 2 ^ (7 - length bits % 8)) % 256 = omega arith in
     cc
 
+pub full_kept : (k : ℕ) (out bits : List ℕ) (at b : ℕ) → 8 * k ≤ at → length bits ≡ at → out ≡ packed_to k bits → out ≡ packed_to k (bits ++ b ∷ [])
+full_kept k out bits at b full long is = is ∙ packed_to_full bits b k (omega arith)
+
 -- a list of bytes, each for a bit
 pub bits_of_bytes : (bytes : List ℕ) → IsBits (map bit_of bytes)
 bits_of_bytes bytes i =
@@ -170,24 +158,30 @@ bits_of_bytes bytes i =
     (λ l. omega (arith, get_or_past (map bit_of bytes) i 0 l))
     (cases_lt i (length (map bit_of bytes)))
 
-pub cleared : (out : List ℕ) (k : ℕ) → length out ≡ k → ((q : ℕ) → q < k → get_or out q 0 ≡ 0) → out ≡ packed_to k []
+pub cleared : (k : ℕ) → replicate k 0 ≡ packed_to k []
 unfolding packed_to
-cleared out k e none = fill_by_all (packed_byte []) out k 0 e none
+cleared k = fill_by_all (packed_byte []) (replicate k 0) k 0 (length-replicate k 0) (λ q l. get_or-replicate k q 0 0 l)
+
+-- numbers that are bits add up to how many of them are 1
+pub ones_counted : (f : ℕ → ℕ) → ((i : ℕ) → f i < 2) → (xs : List ℕ) (n : ℕ)
+    → fold (λ a i. a + cond (eqb (f i) 1) 1 0) n xs ≡ fold (λ a x. a + x) n (map f xs)
+ones_counted f small [] n = refl
+ones_counted f small (x ∷ xs) n =
+    let one : cond (eqb (f x) 1) 1 0 ≡ f x = (let s = small x in grind (arith, common_steps)) in
+    rw one (ones_counted f small xs (n + f x))
 
 pub filled : (bits bytes : List ℕ) (w : ℕ) → length bits ≡ w → ((i : ℕ) → i < w → get_or bits i 0 ≡ bit_at bytes i) → bits ≡ unpacked w bytes
 unfolding unpacked
 filled bits bytes w e all = fill_by_all (bit_at bytes) bits w 0 e all
 
+pub filled_back : (bits bytes : List ℕ) (w : ℕ) → length bits ≡ w → ((i : ℕ) → i < w → get_or bits i 0 ≡ bit_at bytes i) → IsRun w bytes → packed bits ≡ bytes
+filled_back bits bytes w e all run = let is = filled bits bytes w e all in rw is (packed-unpacked w bytes run)
+
 pub packed_inverse : (bytes out : List ℕ) (k : ℕ) → k ≡ bytes_for (length bytes) → out ≡ packed_to k (map bit_of bytes) → unpacked (length bytes) out ≡ map bit_of bytes
-packed_inverse bytes out k room is =
-    let long = length-map bytes bit_of in
-    let whole : packed_to k (map bit_of bytes) ≡ packed (map bit_of bytes) = cc in
-    let back = unpacked-packed (map bit_of bytes) (bits_of_bytes bytes) in
-    cc
+packed_inverse bytes out k room is = grind (arith, common_steps, bits_of_bytes, length-map, unpacked-packed)
 
 pub long_enough : (w : ℕ) (bytes : List ℕ) → AllBelow (SoundByte w bytes) (bytes_for w) → bytes_for w ≤ length bytes
-long_enough w bytes sound =
-    ⊎_elim (λ l. omega (arith, (sound (bytes_for w - 1) (omega arith)).0)) (λ l. omega arith) (cases_lt 0 (bytes_for w))
+long_enough w bytes sound = grind (arith, common_steps, cases_lt, sound)
 
 -- a run is read from its own bytes alone
 unpacked-same : (w : ℕ) (xs ys : List ℕ) → ((q : ℕ) → q < bytes_for w → get_or xs q 0 ≡ get_or ys q 0) → unpacked w xs ≡ unpacked w ys
@@ -205,3 +199,6 @@ unpacked-take w k bytes fit = unpacked-same w (take k bytes) bytes (λ q l. get_
 
 pub unpacked-front : (w : ℕ) (xs ys : List ℕ) → bytes_for w ≤ length xs → unpacked w (xs ++ ys) ≡ unpacked w xs
 unpacked-front w xs ys fit = unpacked-same w (xs ++ ys) xs (λ q l. get_or_append_left xs ys 0 q (omega arith))
+
+-- what one bit more comes to
+pub ruleset growing = (put_packed, full_kept)

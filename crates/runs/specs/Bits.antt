@@ -34,6 +34,10 @@ packed_byte bits q =
 unfoldable pub packed_to : ℕ → List ℕ → List ℕ
 packed_to k bits = map (packed_byte bits) (range_with_len 0 k)
 
+-- bytes that hold this run, and 0 behind it
+abbrev pub IsPacked : List ℕ → List ℕ → Type 0
+IsPacked bytes bits = bytes ≡ packed_to (length bytes) bits
+
 -- a run of bits packed into as many bytes as it takes
 abbrev pub packed : List ℕ → List ℕ
 packed bits = packed_to (bytes_for (length bits)) bits
@@ -45,6 +49,14 @@ unused w q = 8 * (q + 1) - w
 -- byte q where bytes are to begin with a run of w bits: it is there, and its unused bits are 0
 abbrev pub SoundByte : ℕ → List ℕ → ℕ → Type 0
 SoundByte w bytes q = (q < length bytes) × (slice_index bytes q % 2 ^ unused w q ≡ 0)
+
+-- bytes that begin with a run of w bits
+abbrev pub BeginsSound : ℕ → List ℕ → Type 0
+BeginsSound w bytes = AllBelow (SoundByte w bytes) (bytes_for w)
+
+-- bytes that are a run of w bits and nothing more
+abbrev pub WholeSound : ℕ → List ℕ → Type 0
+WholeSound w bytes = (length bytes ≡ bytes_for w) × BeginsSound w bytes
 
 -- byte q where bytes are to be a run of w bits and nothing more
 abbrev pub SoundLast : ℕ → List ℕ → ℕ → Type 0
@@ -58,4 +70,4 @@ IsBytes bytes = (q : ℕ) → slice_index bytes q < 256
 pub record IsRun (w : ℕ) (bytes : List ℕ) : Type 0 where
   pub small : IsBytes bytes
   pub long : length bytes ≡ bytes_for w
-  pub sound : AllBelow (SoundByte w bytes) (bytes_for w)
+  pub sound : BeginsSound w bytes

@@ -20,6 +20,7 @@ impl<'a> Run<'a> {
     }
 
     // How many bits it has.
+    #[tactic(auto, using(crate::proofs::Packed::read))]
     pub fn len(&self) -> usize
         ensures { result ≡ length (bits_of self.now) }
     {
@@ -27,6 +28,7 @@ impl<'a> Run<'a> {
     }
 
     // Bit i; past the end it is 0.
+    #[tactic(auto, using(crate::proofs::Packed::read))]
     pub fn bit(&self, i: usize) -> u8
         ensures { result ≡ slice_index (bits_of self.now) i }
     {
@@ -41,10 +43,8 @@ impl<'a> Run<'a> {
     pub fn ones(&self) -> usize
         ensures { result ≡ sum (bits_of self.now) }
     {
-        let mut ones = 0usize;
-        for i in 0..self.width {
-            ones += bit_at(self.bytes, i) as usize;
-        }
-        ones
+        (0..self.width)
+            .filter(|i| bit_at(self.bytes, *i) == 1)
+            .count()
     }
 }

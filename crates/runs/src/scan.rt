@@ -1,53 +1,47 @@
 ghost use Rattle.std.specs.Prelude.{◌≡◌, max, length, MatchOption};
-ghost use Rattle.codes.specs.Places.{AllBelow, FirstFault};
-ghost use Rattle.runs.specs.Bits.{bit_at, bytes_for, SoundByte, SoundLast};
+ghost use Rattle.codes.specs.Places.{FirstFault};
+ghost use Rattle.runs.specs.Bits.{bit_at, bytes_for, BeginsSound, SoundByte, SoundLast, WholeSound};
 
 // How many bytes so many bits take.
 pub fn bytes_for(width: usize) -> usize
     ensures { result ≡ bytes_for width }
 {
-    width / 8 + (width % 8 + 7) / 8
+    width.div_ceil(8)
 }
 
 // Bit i of packed bytes; past their end it is 0.
 pub fn bit_at(bytes: &[u8], i: usize) -> u8
     ensures { result ≡ bit_at bytes.now i }
 {
-    let q = i / 8;
-    if q < bytes.len() {
-        (bytes[q] >> (7 - i % 8)) % 2
-    } else {
-        0
-    }
+    let byte = bytes.get(i / 8).copied().unwrap_or(0);
+    (byte >> (7 - i % 8)) % 2
 }
 
 // The first byte at fault where the bytes are to begin with a run of so many bits: one with an unused bit set, or the first missing one.
 pub fn run_fault(width: usize, bytes: &[u8]) -> Option<usize>
-    ensures { MatchOption result (AllBelow (SoundByte width bytes.now) (bytes_for width)) (FirstFault (SoundByte width bytes.now) (bytes_for width)) }
+    ensures { MatchOption result (BeginsSound width bytes.now) (FirstFault (SoundByte width bytes.now) (bytes_for width)) }
 {
-    for q in 0..bytes_for(width) {
-        if q >= bytes.len() {
-            return Some(q);
-        }
-        let unused = 8usize.saturating_sub(width - 8 * q);
-        if bytes[q] % (1 << unused) != 0 {
-            return Some(q);
-        }
+    if bytes.len() < bytes_for(width) {
+        return Some(bytes.len());
     }
-    None
+
+    // Only a byte that is not full has unused bits.
+    let (full, used) = (width / 8, width % 8);
+    if used > 0 && bytes[full] % (1 << (8 - used)) != 0 {
+        Some(full)
+    } else {
+        None
+    }
 }
 
 // The same where the bytes are to be that run and nothing more: a byte past it is at fault too.
+#[tactic(auto, using(crate::proofs::Packed::long_enough))]
 pub fn last_run_fault(width: usize, bytes: &[u8]) -> Option<usize>
-    ensures { MatchOption result ((length bytes.now ≡ bytes_for width) × AllBelow (SoundByte width bytes.now) (bytes_for width)) (FirstFault (SoundLast width bytes.now) (max (length bytes.now) (bytes_for width))) }
+    ensures { MatchOption result (WholeSound width bytes.now) (FirstFault (SoundLast width bytes.now) (max (length bytes.now) (bytes_for width))) }
 {
-    if let Some(q) = run_fault(width, bytes) {
-        return Some(q);
-    }
     let needed = bytes_for(width);
-    if bytes.len() > needed {
-        Some(needed)
-    } else {
-        None
+    match run_fault(width, bytes) {
+        None if bytes.len() > needed => Some(needed),
+        fault => fault,
     }
 }

@@ -1,7 +1,7 @@
 -- The six-position matrix is one.
 use Rattle.std.proofs.Common.{ℕ, ◌<◌, refl, arith, lit<, lit≤}
 use Rattle.codes.specs.Admission.{Admissible, SoundCheck, SoundEntry, SoundPosition, Follows}
-use Rattle.worked_cases.specs.Six.{six_positions}
+use Rattle.codes.specs.Six.{six_positions}
 use Rattle.worked_cases.proofs.Listed.{each, ◌then◌}
 
 -- no check goes on at the entries 0, 3 and 6

@@ -7,7 +7,8 @@ use Rattle.protocol.specs.Plan.{Plan, with_side}
 use Rattle.protocol.specs.Calls.{Call, open_call, say_call, hear_call, turn_call, key_call, close_call}
 use Rattle.protocol.specs.Runs.{Ask, Event, log_of}
 use Rattle.protocol.specs.Guarantee.{Block}
-use Rattle.worked_cases.specs.Six.{six_positions, alice_key}
+use Rattle.codes.specs.Six.{six_positions}
+use Rattle.worked_cases.specs.Six.{alice_key}
 
 -- propagation under the offset rule
 abbrev pub offset : ℕ → Rule

@@ -1,7 +1,6 @@
 -- What is read off a run.
 use Rattle.std.specs.Prelude.{◌≡◌, ℕ, List, [], ◌∷◌, ◌++◌}
-use Rattle.decoders.specs.Question.{Question}
-use Rattle.decoders.specs.declared.state.State.TheVariants.{Raw}
+use Rattle.decoders.specs.Six.{six_question}
 use Rattle.ledger.specs.declared.line.Line.{Line}
 use Rattle.ledger.specs.declared.line.Outcome.TheVariants.{Settled}
 use Rattle.protocol.specs.Asking.{Verdict, judged}
@@ -9,7 +8,6 @@ use Rattle.protocol.specs.Calls.{Reply, refused, no_memory, begins, says, hears,
 use Rattle.protocol.specs.Runs.{Ask, Event}
 use Rattle.protocol.specs.Reading.{Among, event, reached}
 use Rattle.protocol.specs.Guarantee.{Block, SettledWith, corrected}
-use Rattle.worked_cases.specs.Six.{six_positions}
 use Rattle.worked_cases.specs.Block.{offset, closing}
 use Rattle.worked_cases.specs.declared.block.Ending.{Ending}
 
@@ -53,15 +51,6 @@ abbrev pub frames_of : List Event → List (List ℕ)
 frames_of [] = []
 frames_of (e ∷ log) = frame_in e.reply ++ frames_of log
 
--- the difference 100 with every position raw, and what one iteration makes of it, under a step and the cap 6
-abbrev pub first_question : Question
-first_question =
-    record {
-      code = six_positions;
-      difference = 1 ∷ 0 ∷ 0 ∷ [];
-      states = Raw ∷ Raw ∷ Raw ∷ Raw ∷ Raw ∷ Raw ∷ [];
-      class = 5;
-    }
-
+-- what one iteration makes of the difference 100 with every position raw, under a step and the cap 6
 abbrev pub first_verdict : ℕ → Verdict
-first_verdict step = (judged (offset 1) step 6 first_question).verdict
+first_verdict step = (judged (offset 1) step 6 (six_question (1 ∷ 0 ∷ 0 ∷ []))).verdict

@@ -3,7 +3,8 @@
 // The worked cases on the six-position matrix, each computed from the definitions.
 ghost use Rattle.std.specs.Prelude.{◌≡◌};
 ghost use Rattle.codes.specs.Syndrome.{syndrome as syndrome_of};
-ghost use Rattle.worked_cases.specs.Six.{six_positions, alice_key};
+ghost use Rattle.codes.specs.Six.{six_positions};
+ghost use Rattle.worked_cases.specs.Six.{alice_key};
 
 mod block;
 mod naming;

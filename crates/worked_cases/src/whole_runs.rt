@@ -1,16 +1,18 @@
 ghost use Rattle.std.specs.Prelude.{◌≡◌, ◌≢◌};
 ghost use Rattle.codes.specs.Syndrome.{syndrome as syndrome_of, added};
+ghost use Rattle.frames.specs.Numbers.{side_number};
 ghost use Rattle.protocol.specs.Calls.{says, writes};
 ghost use Rattle.protocol.specs.Guarantee.{Premises, Companion};
 ghost use Rattle.protocol.specs.Reading.{disclosed_in};
 ghost use Rattle.protocol.specs.Runs.{log_of};
-ghost use Rattle.worked_cases.specs.Six.{six_positions, alice_key};
+ghost use Rattle.codes.specs.Six.{six_positions};
+ghost use Rattle.worked_cases.specs.Six.{alice_key};
 ghost use Rattle.worked_cases.specs.Block.{offset, alice, bob, bob_key, far_key, six_block, saying, writing, two_rounds, two_round_log, one_round_log};
 ghost use Rattle.worked_cases.specs.Seen.{Replied, EndsAs, settled_in, SettledAt, frames_of};
 
 use crate::block::Ending;
 use ledger::Line;
-use protocol::Outcome;
+use protocol::{Outcome, Side};
 
 // In round 1 both ends disclose position 3. The premises of the guarantee hold of this run.
 pub fn disclosed() -> [u8; 6]
@@ -32,23 +34,23 @@ pub fn alice_discloses() -> [u8; 10]
 pub fn alice_ends() -> Ending
     ensures { EndsAs alice two_round_log result }
 {
-    settled(1, 0, 4)
+    settled(1, Side::Alice, 4)
 }
 
 pub fn bob_ends() -> Ending
     ensures { EndsAs bob two_round_log result }
 {
-    settled(1, 1, 4)
+    settled(1, Side::Bob, 4)
 }
 
-fn settled(round: u16, side: u8, leak: u32) -> Ending
-    ensures { result ≡ settled_in round side leak }
+fn settled(round: u16, side: Side, leak: u32) -> Ending
+    ensures { result ≡ settled_in round (side_number side) leak }
 {
     Ending {
         round,
         told: Line {
             block: 7,
-            side,
+            side: u8::from(side),
             raw: 6,
             leak,
             outcome: Outcome::Settled,

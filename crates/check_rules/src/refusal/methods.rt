@@ -1,41 +1,36 @@
-ghost use Rattle.std.specs.Prelude.{◌≡◌};
-ghost use Rattle.check_rules.specs.Refusals.{table_number, table_place, entry_place};
+ghost use Rattle.std.specs.Prelude.{◌≡◌, Some};
+ghost use Rattle.check_rules.specs.Refusals.{table_told, told_text};
 
-use super::TableRefusal;
+use super::{TableRefusal, TableTold};
+use std::fmt;
 
 impl TableRefusal {
-    pub fn number(self) -> u8
-        ensures { result ≡ table_number self }
+    pub fn told(&self) -> TableTold
+        ensures { result ≡ table_told self.now }
     {
-        match self {
-            TableRefusal::WrongLength => 5,
-            TableRefusal::WrongF2a(_) => 6,
-            TableRefusal::WrongA2f(_) => 6,
-            TableRefusal::WrongRaw(_) => 6,
+        let (number, table, entry) = match *self {
+            TableRefusal::WrongLength => (5, 0, 0),
+            TableRefusal::WrongF2a(entry) => (6, 0, entry),
+            TableRefusal::WrongA2f(entry) => (6, 1, entry),
+            TableRefusal::WrongRaw(entry) => (6, 2, entry),
+        };
+        TableTold {
+            number,
+            table,
+            entry,
         }
     }
+}
 
-    // Which table: 0 is f2a, 1 is a2f, 2 is the raw beliefs.
-    pub fn table(self) -> u8
-        ensures { result ≡ table_place self }
-    {
-        match self {
-            TableRefusal::WrongLength => 0,
-            TableRefusal::WrongF2a(_) => 0,
-            TableRefusal::WrongA2f(_) => 1,
-            TableRefusal::WrongRaw(_) => 2,
-        }
-    }
+// A wrong length has no entry, and is printed with one 0.
+impl fmt::Display for TableTold {
+    ghost output = { λ t. Some (told_text t) };
 
-    // Which entry, counted from 1.
-    pub fn entry(self) -> usize
-        ensures { result ≡ entry_place self }
-    {
-        match self {
-            TableRefusal::WrongLength => 0,
-            TableRefusal::WrongF2a(entry) => entry,
-            TableRefusal::WrongA2f(entry) => entry,
-            TableRefusal::WrongRaw(entry) => entry,
+    fn fmt<W: fmt::Write>(&self, f: &mut fmt::Formatter<W>) -> fmt::Result {
+        if self.entry == 0 {
+            write!(f, "{} 0", self.number)
+        } else {
+            write!(f, "{} {} {}", self.number, self.table, self.entry)
         }
     }
 }

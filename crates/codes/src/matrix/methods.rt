@@ -1,13 +1,15 @@
-ghost use Rattle.std.specs.Prelude.{◌≡◌, MatchResult};
-ghost use Rattle.codes.specs.Admission.{Admissible, Refused};
-ghost use Rattle.codes.specs.Code.{checks as checks_of};
-ghost use Rattle.codes.specs.Of.{code_of};
+ghost use Rattle.std.specs.Prelude.{◌≡◌, ◌<◌, ◌≤◌, length, MatchResult, slice_index};
+ghost use Rattle.codes.specs.Places.{AllBelow};
+ghost use Rattle.codes.specs.Admission.{Admissible, Refused, degree};
+ghost use Rattle.codes.specs.Code.{checks as checks_of, check as check_of, start as start_of};
+ghost use Rattle.codes.specs.Of.{code_of, lent_of};
+ghost use Rattle.codes.specs.Lent.{lent};
 ghost use Rattle.codes.specs.Syndrome.{SyndromeGiven};
 
 use super::Matrix;
-use crate::admission::matrix_fault;
+use crate::admission::{admit_runs, count_degrees, start};
+use crate::lent::Lent;
 use crate::refusal::{MatrixRefusal, SyndromeRefusal};
-use crate::syndrome::write_syndrome;
 
 impl Matrix {
     // Takes over the two runs of an admissible matrix of `n` positions and `m` checks.
@@ -18,11 +20,12 @@ impl Matrix {
         positions: Vec<u16>,
         ends: Vec<u16>,
     ) -> Result<Matrix, MatrixRefusal>
-        ensures { MatchResult result (λ x. Admissible n m positions.items ends.items × (code_of x ≡ record { number = number; width = n; positions = positions.items; ends = ends.items })) (Refused n m positions.items ends.items) }
+        ensures { MatchResult result
+            (λ x. Admissible n m positions.items ends.items
+            × (code_of x ≡ record { number = number; width = n; positions = positions.items; ends = ends.items }))
+            (Refused n m positions.items ends.items) }
     {
-        if let Some(fault) = matrix_fault(n, m, positions.as_slice(), ends.as_slice()) {
-            return Err(fault);
-        }
+        admit_runs(n, m, positions.as_slice(), ends.as_slice())?;
         Ok(Matrix {
             number,
             width: n,
@@ -65,10 +68,43 @@ impl Matrix {
         self.ends.as_slice()
     }
 
+    // The positions of check k; past the last check it is empty.
+    pub fn check(&self, k: usize) -> &[u16]
+        ensures value { result.now ≡ check_of (code_of self.now) k }
+        ensures within { AllBelow (λ i. slice_index result.now i < (code_of self.now).width) (length result.now) }
+        ensures few { length result.now ≤ 32 }
+    {
+        self.lend().check(k)
+    }
+
+    // Where check k begins in the run of positions; 0 past the last check but one.
+    pub fn start(&self, k: usize) -> usize
+        ensures { result ≡ start_of (code_of self.now).ends k }
+    {
+        start(self.ends(), k)
+    }
+
+    // Counts how many checks hold each position; a position past the end of the counts is passed over.
+    pub fn count_degrees(&self, degrees: &mut [u32])
+        ensures { AllBelow (λ i. slice_index degrees.new i ≡ degree (code_of self.now).positions i) (length degrees.old) }
+    {
+        count_degrees(self.positions(), degrees);
+    }
+
+    fn lend(&self) -> Lent<'_>
+        ensures { lent_of result ≡ lent (code_of self.now).width (code_of self.now).positions (code_of self.now).ends }
+    {
+        Lent {
+            width: self.width,
+            positions: self.positions(),
+            ends: self.ends(),
+        }
+    }
+
     // Writes one parity a check to the front of the buffer.
     pub fn syndrome(&self, key: &[u8], out: &mut [u8]) -> Result<(), SyndromeRefusal>
         ensures { SyndromeGiven (code_of self.now) key.now out.old out.new result }
     {
-        write_syndrome(self.width, self.positions(), self.ends(), key, out)
+        self.lend().syndrome(key, out)
     }
 }

@@ -1,70 +1,63 @@
-ghost use Rattle.std.specs.Prelude.{◌≡◌};
-ghost use Rattle.codes.specs.Refusals.{matrix_number, matrix_place, syndrome_number, syndrome_place, call_number, call_place};
+ghost use Rattle.codes.specs.Refusals.{matrix_told, syndrome_told, call_told};
 
 use super::{CallRefusal, MatrixRefusal, SyndromeRefusal};
+use refusals::{Refusal, Told};
 
-impl MatrixRefusal {
-    pub fn number(self) -> u8
-        ensures { result ≡ matrix_number self }
-    {
-        match self {
-            MatrixRefusal::WrongSize => 1,
-            MatrixRefusal::WrongCheck(_) => 2,
-            MatrixRefusal::WrongEntry(_) => 3,
-            MatrixRefusal::WrongPosition(_) => 4,
-        }
+impl Refusal for MatrixRefusal {
+    ghost tells = { matrix_told };
+
+    fn told(&self) -> Told {
+        let (number, place) = match *self {
+            MatrixRefusal::WrongSize => (1, 0),
+            MatrixRefusal::WrongCheck(k) => (2, k),
+            MatrixRefusal::WrongEntry(j) => (3, j),
+            MatrixRefusal::WrongPosition(i) => (4, i),
+        };
+        Told { number, place }
     }
+}
 
-    // The place told, 0 where there is none.
-    pub fn place(self) -> usize
-        ensures { result ≡ matrix_place self }
-    {
+impl Refusal for SyndromeRefusal {
+    ghost tells = { syndrome_told };
+
+    fn told(&self) -> Told {
+        let (number, place) = match *self {
+            SyndromeRefusal::WrongKey(i) => (9, i),
+            SyndromeRefusal::ShortBuffer(needed) => (12, needed),
+        };
+        Told { number, place }
+    }
+}
+
+impl Refusal for CallRefusal {
+    ghost tells = { call_told };
+
+    fn told(&self) -> Told {
         match self {
-            MatrixRefusal::WrongSize => 0,
-            MatrixRefusal::WrongCheck(k) => k,
-            MatrixRefusal::WrongEntry(j) => j,
-            MatrixRefusal::WrongPosition(i) => i,
+            CallRefusal::Matrix(refusal) => refusal.told(),
+            CallRefusal::Syndrome(refusal) => refusal.told(),
         }
     }
 }
 
-impl SyndromeRefusal {
-    pub fn number(self) -> u8
-        ensures { result ≡ syndrome_number self }
-    {
-        match self {
-            SyndromeRefusal::WrongKey(_) => 9,
-            SyndromeRefusal::ShortBuffer(_) => 12,
-        }
-    }
+impl From<MatrixRefusal> for CallRefusal {
+    ghost use Rattle.std.specs.Prelude.{◌≡◌};
+    ghost use Rattle.codes.specs.declared.refusal.CallRefusal.TheVariants.{Matrix};
 
-    // The position at fault, or the length needed.
-    pub fn place(self) -> usize
-        ensures { result ≡ syndrome_place self }
-    {
-        match self {
-            SyndromeRefusal::WrongKey(i) => i,
-            SyndromeRefusal::ShortBuffer(needed) => needed,
-        }
+    ghost from_gives = { λ e r. r ≡ Matrix e };
+
+    fn from(fault: MatrixRefusal) -> CallRefusal {
+        CallRefusal::Matrix(fault)
     }
 }
 
-impl CallRefusal {
-    pub fn number(self) -> u8
-        ensures { result ≡ call_number self }
-    {
-        match self {
-            CallRefusal::Matrix(refusal) => refusal.number(),
-            CallRefusal::Syndrome(refusal) => refusal.number(),
-        }
-    }
+impl From<SyndromeRefusal> for CallRefusal {
+    ghost use Rattle.std.specs.Prelude.{◌≡◌};
+    ghost use Rattle.codes.specs.declared.refusal.CallRefusal.TheVariants.{Syndrome};
 
-    pub fn place(self) -> usize
-        ensures { result ≡ call_place self }
-    {
-        match self {
-            CallRefusal::Matrix(refusal) => refusal.place(),
-            CallRefusal::Syndrome(refusal) => refusal.place(),
-        }
+    ghost from_gives = { λ e r. r ≡ Syndrome e };
+
+    fn from(fault: SyndromeRefusal) -> CallRefusal {
+        CallRefusal::Syndrome(fault)
     }
 }

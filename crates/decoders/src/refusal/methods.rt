@@ -1,23 +1,17 @@
-ghost use Rattle.std.specs.Prelude.{◌≡◌};
-ghost use Rattle.decoders.specs.Refusals.{decoder_number, decoder_place};
+ghost use Rattle.decoders.specs.Refusals.{decoder_told};
 
 use super::DecoderRefusal;
+use refusals::{Refusal, Told};
 
-impl DecoderRefusal {
-    pub fn number(self) -> u8
-        ensures { result ≡ decoder_number self }
-    {
-        match self {
-            DecoderRefusal::ShortBuffer => 20,
-        }
-    }
+impl Refusal for DecoderRefusal {
+    ghost tells = { decoder_told };
 
-    // No place is told.
-    pub fn place(self) -> usize
-        ensures { result ≡ decoder_place self }
-    {
+    fn told(&self) -> Told {
         match self {
-            DecoderRefusal::ShortBuffer => 0,
+            DecoderRefusal::ShortBuffer => Told {
+                number: 20,
+                place: 0,
+            },
         }
     }
 }

@@ -12,13 +12,8 @@ impl<'a> Plan<'a> {
         ensures { plan_of result ≡ with_side (side_number side) (plan_of self.entry) }
     {
         Plan {
-            block: self.block,
-            side: side.number(),
-            matrix: self.matrix,
-            kinds: self.kinds,
-            class: self.class,
-            step: self.step,
-            cap: self.cap,
+            side: u8::from(side),
+            ..self
         }
     }
 }

@@ -23,7 +23,7 @@ loop-j-preserved c =
     let j = c.loop-j.j in
     let filled : AllBelow (Filled ends) (length ends) = λ k h. (c.requires.checks k h).0 in
     let entry : Rises ps ends j → AllBelow (SoundEntry c.args.n ps ends) (j + 1) =
-    λ r. below_more (SoundEntry c.args.n ps ends) j c.loop-j.invariant.4 (c.if-positions-j.false, r) in
+    λ r. below_more (SoundEntry c.args.n ps ends) j c.loop-j.invariant.4 (c.if-position-n.false, r) in
     elim c.if-ends-check.branch [
       | then-ends-check w ↦
           let k = c.loop-j.check in

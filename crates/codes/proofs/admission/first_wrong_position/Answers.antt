@@ -1,20 +1,12 @@
-use Rattle.std.proofs.Common.{◌<◌, arith, below_more}
-use Rattle.std.proofs.lemmas.List.{get_or-replicate}
+use Rattle.std.proofs.Common.{◌-◌, ◌<◌, ◌∙◌, arith, below_more}
+use Rattle.std.proofs.lemmas.List.{get_or-take, length-take}
 use Rattle.codes.specs.Admission.{SoundPosition}
 use Rattle.codes.proofs.admission.first_wrong_position.Goals as goal
 
-pub count_degrees-requires : goal.count_degrees-requires
-count_degrees-requires c =
-    record {
-      few = c.requires.few;
-      within = λ k h. omega (arith, c.requires.within k h, c.requires.width);
-      clear = λ k h. get_or-replicate 2048 k 0 0 h;
-    }
-
 pub loop-i-preserved : goal.loop-i-preserved
 loop-i-preserved c =
-    let i = c.loop-i.i in
-    let low : i < 2048 = omega (arith, c.requires.width) in
-    let e = c.count_degrees.ensures i low in
-    below_more (SoundPosition c.args.positions.now) i c.loop-i.invariant
-    (omega (arith, e, c.if-degrees-i-lt1.false), omega (arith, e, c.if-degrees-i-gt-MOST_CHECKS_HELD.false))
+    let near : c.loop-i.i < c.args.n - 0 = omega (arith, c.loop-i-test.true, length-take (c.args.n - 0) c.count_degrees.new.degrees) in
+    let low : c.loop-i.i < 2048 = omega (arith, near, c.requires.width) in
+    let e = get_or-take (c.args.n - 0) c.count_degrees.new.degrees c.loop-i.i 0 near ∙ c.count_degrees.ensures c.loop-i.i low in
+    below_more (SoundPosition c.args.positions.now) c.loop-i.i c.loop-i.invariant
+    (omega (arith, e, c.if-degree-lt1.false), omega (arith, e, c.if-degree-gt-MOST_CHECKS_HELD.false))

@@ -12,12 +12,12 @@ loop-i-preserved c =
     let i = c.loop-i.i in
     let f : ℕ → ℕ = λ k. (get_or c.args.key.now k 0 + get_or c.args.word.now k 0) % 2 in
     let same = c.loop-i.invariant.1 i (omega arith) in
-    let bit : c.if-i-word.bit ≡ get_or c.args.word.now i 0 % 2 =
+    let other : c.if-i-word.other ≡ get_or c.args.word.now i 0 % 2 =
     elim c.if-i-word.branch [
-      | then-i-word w ↦ w.bit-is
-      | else-i-word w ↦ omega (arith, w.bit-is, get_or_past c.args.word.now i 0 w.if-i-word.false)
+      | then-i-word w ↦ w.other-is
+      | else-i-word w ↦ omega (arith, w.other-is, get_or_past c.args.word.now i 0 w.if-i-word.false)
     ] in
-    let here : (get_or c.loop-i.key i 0 % 2 + c.if-i-word.bit) % 2 ≡ f i = rw (same, bit) (omega arith) in (
+    let here : (get_or c.loop-i.key i 0 % 2 + c.if-i-word.other) % 2 ≡ f i = rw (same, other) (omega arith) in (
       rw here (fill_by_more f c.loop-i.key i 0 (omega (arith, c.loop-i.auto.key)) c.loop-i.invariant.0),
       λ k h. let ne : k ≢ i = omega arith in rw get_or-set_other (c.loop-i.invariant.1 k (omega arith)),
     )

@@ -1,60 +1,53 @@
-use Rattle.std.proofs.Common.{◌≡◌, ◌<◌, map, length, sym, refl, ◌∙◌, add-one, arith}
-use Rattle.codes.proofs.Checks.{ends-within}
+use Rattle.std.proofs.Common.{◌<◌, map, length, sym, ◌∙◌, arith}
+use Rattle.std.proofs.lemmas.List.{length-map}
+use Rattle.codes.specs.Of.{code_of}
+use Rattle.codes.proofs.Parities.{parity_here, parity_past}
 use Rattle.decoders.specs.Question.{bit_of}
 use Rattle.decoders.specs.Fit.{meets}
-use Rattle.decoders.proofs.Fits.{below_more, below_fails, parity-entry, meets_here, fails_here}
+use Rattle.decoders.proofs.Fits.{below_more, below_fails, gone_through, meets_here, fails_here}
 use Rattle.decoders.proofs.fit.checks_fit.Goals as goal
+use Rattle.decoders.proofs.fit.checks_fit.Goals.{then-i-bits, else-i-bits}
 
-pub checks-preserved : goal.checks-preserved
-checks-preserved c =
-    let ps = c.args.positions.now in
-    let ends = c.args.ends.now in
-    let ds = c.args.difference.now in
-    let pattern = c.args.pattern.now in
-    let k = c.checks.k in
-    let begins = c.entries.invariant.1 ∙ c.checks.invariant.1 in
-    let whole = rw c.if-j-end.true at c.entries.invariant.4 in
-    let here = meets_here ps ends ds pattern k c.entries.start c.entries.sum (omega (arith, c.requires.long)) begins whole (c.if-sum-min.false ∙ c.min.ensures) in
-    (c.entries.invariant.0 ∙ c.checks.invariant.0, rw add-one refl, below_more (meets ps ends (map bit_of ds) pattern) k c.checks.invariant.2 here)
-
-pub bounds-positions-j : goal.bounds-positions-j
-bounds-positions-j c =
-    omega
-    (arith, ends-within c.args.positions.now c.args.ends.now c.checks.k c.requires.checks c.checks-test.true, c.entries.invariant.3)
-
-pub bounds-pattern-positions : goal.bounds-pattern-positions
-bounds-pattern-positions c =
-    c.requires.within c.entries.j
-    (omega
-    (arith, ends-within c.args.positions.now c.args.ends.now c.checks.k c.requires.checks c.checks-test.true, c.entries.invariant.3))
-
-pub entries-preserved : goal.entries-preserved
-entries-preserved c =
-    let ps = c.args.positions.now in
-    let j = c.entries.j in
-    let h : j < length ps =
-    omega (arith, ends-within ps c.args.ends.now c.checks.k c.requires.checks c.checks-test.true, c.entries.invariant.3) in (
-      c.entries.invariant.0,
-      c.entries.invariant.1,
-      omega (arith, c.entries.invariant.2),
-      omega (arith, c.entries.invariant.3),
-      parity-entry c.args.pattern.now ps c.entries.start j c.entries.sum c.entries.invariant.2 h c.entries.invariant.4,
+pub loop-j-preserved : goal.loop-j-preserved
+loop-j-preserved g c =
+    let told = g.B.TellsBit.told in
+    let check = c.check-check.result.now in
+    let j = c.loop-j.j in
+    let near : j < length check = omega (arith, c.if-j-check.false, c.loop-j.invariant.1) in (
+      c.loop-j.invariant.0,
+      omega (arith, near),
+      elim c.if-i-bits.branch [
+        | then-i-bits w ↦
+            w.sum-is
+            ∙ parity_here told c.args.bits.now check j c.loop-j.sum near c.loop-j.invariant.2 w.index-bits-i.result
+            w.bit.result w.if-i-bits.true w.index-bits-i.is w.bit.ensures.value
+        | else-i-bits w ↦
+            w.sum-is ∙ parity_past told c.args.bits.now check j c.loop-j.sum near c.loop-j.invariant.2 w.if-i-bits.false
+      ],
     )
 
-pub returns-after-checks : goal.returns-after-checks
-returns-after-checks c =
-    let ends = c.args.ends.now in
-    let all : c.checks.k ≡ length ends = omega arith in
-    c.checks.invariant.0 ∙ sym (rw all at c.checks.invariant.2)
+pub checks-preserved : goal.checks-preserved
+checks-preserved g c =
+    let code = code_of c.args.matrix.now in
+    let ds = c.args.difference.now in
+    let told = map g.B.TellsBit.told c.args.bits.now in
+    let whole =
+    gone_through told code.positions code.ends c.check-check.result.now c.checks.k c.loop-j.j c.loop-j.sum
+    c.check-check.ensures.value c.if-j-check.true c.loop-j.invariant.2 in
+    let here = meets_here code.positions code.ends ds told c.checks.k c.loop-j.sum c.checks-test.true whole (c.if-sum-min.false ∙ c.min.ensures) in (
+      c.loop-j.invariant.0 ∙ c.checks.invariant.0,
+      below_more (meets code.positions code.ends (map bit_of ds) told) c.checks.k c.checks.invariant.1 here,
+    )
 
 pub returns-then-sum-min : goal.returns-then-sum-min
-returns-then-sum-min c =
-    let ps = c.args.positions.now in
-    let ends = c.args.ends.now in
+returns-then-sum-min g c =
+    let code = code_of c.args.matrix.now in
     let ds = c.args.difference.now in
-    let pattern = c.args.pattern.now in
-    let k = c.checks.k in
-    let begins = c.entries.invariant.1 ∙ c.checks.invariant.1 in
-    let whole = rw c.if-j-end.true at c.entries.invariant.4 in
-    let here = fails_here ps ends ds pattern k c.entries.start c.entries.sum (omega (arith, c.requires.long)) begins whole (λ e. c.if-sum-min.true (e ∙ sym c.min.ensures)) in
-    sym (below_fails (meets ps ends (map bit_of ds) pattern) (length ends) k c.checks-test.true here)
+    let told = map g.B.TellsBit.told c.args.bits.now in
+    let whole =
+    gone_through told code.positions code.ends c.check-check.result.now c.checks.k c.loop-j.j c.loop-j.sum
+    c.check-check.ensures.value c.if-j-check.true c.loop-j.invariant.2 in
+    let here = fails_here code.positions code.ends ds told c.checks.k c.loop-j.sum c.checks-test.true whole (λ e. c.if-sum-min.true (e ∙ sym c.min.ensures)) in
+    sym
+    (below_fails (meets code.positions code.ends (map bit_of ds) told) (length (map bit_of ds)) c.checks.k
+    (omega (arith, c.checks-test.true, length-map ds bit_of)) here)

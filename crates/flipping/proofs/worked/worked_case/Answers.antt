@@ -1,4 +1,4 @@
-use Rattle.std.proofs.Common.{◌≡◌, refl, ap, ◌∙◌}
+use Rattle.std.proofs.Common.{◌≡◌, refl}
 use Rattle.decoders.specs.Fit.{pattern_fits}
 use Rattle.flipping.specs.Flips.{met, unmet, run, confidences, flipping_rule}
 use Rattle.flipping.specs.Worked.{small_question, small_answer}
@@ -9,4 +9,4 @@ unfolding pattern_fits met unmet run confidences flipping_rule
 computed = refl
 
 pub returns : goal.returns
-returns c = ap (λ limit. flipping_rule limit small_question) c.new.ensures.value ∙ computed
+returns c = cc (c.new.ensures.value, computed)

@@ -1,7 +1,7 @@
 use Rattle.std.proofs.Common.{◌≡◌, ℕ, List, [], ◌∷◌, get_or, replicate, refl, ap, arith}
 use Rattle.propagation.specs.Course.{propagation_room}
 use Rattle.protocol.specs.Reading.{here, there}
-use Rattle.worked_cases.specs.Six.{six_positions}
+use Rattle.codes.specs.Six.{six_positions}
 use Rattle.worked_cases.proofs.Computed.{computed}
 use Rattle.worked_cases.proofs.whole_runs.wrong_key.Goals as goal
 

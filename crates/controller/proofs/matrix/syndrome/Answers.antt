@@ -1,0 +1,15 @@
+use Rattle.std.proofs.Common.{◌≡◌, Err, inl, inr, rules}
+use Rattle.controller.proofs.Numbers.{syndrome_refused}
+use Rattle.codes.specs.declared.refusal.CallRefusal.TheVariants.{Matrix}
+use Rattle.codes.specs.declared.refusal.MatrixRefusal.TheVariants.{WrongSize}
+use Rattle.controller.proofs.matrix.syndrome.Goals as goal
+
+pub returns-in_err-positions : goal.returns-in_err-positions
+returns-in_err-positions c =
+    let is : c.from_residual.result ≡ Err (Matrix WrongSize) = search rules in
+    rw is (syndrome_refused c.args.n c.args.m _ _ _ _ (inl c.in_err-positions.ensures.1))
+
+pub returns-in_err-ends : goal.returns-in_err-ends
+returns-in_err-ends c =
+    let is : c.from_residual-in_err-ends.result ≡ Err (Matrix WrongSize) = search rules in
+    rw is (syndrome_refused c.args.n c.args.m _ _ _ _ (inr c.in_err-ends.ensures.1))

@@ -1,0 +1,5 @@
+pub mod Words
+pub mod Lines
+pub mod Spelling
+pub mod Chosen
+pub mod Asking
