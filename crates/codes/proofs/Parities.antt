@@ -1,8 +1,9 @@
 -- The steps of a parity, and the sum of two words.
-use Rattle.std.proofs.Common.{◌≡◌, ℕ, suc, ◌+◌, ◌%◌, ◌<◌, ◌≤◌, List, [], ◌∷◌, map, length, get_or, take, replicate, sym, refl, ap, ◌∙◌, ⊎_elim, arith}
-use Rattle.std.proofs.lemmas.List.{get_or-map, get_or_past, length-map, get_or-replicate, length-replicate, ext_get_or}
+use Rattle.std.proofs.Common.{◌≡◌, ◌≢◌, ℕ, suc, ◌+◌, ◌%◌, ◌<◌, ◌≤◌, List, [], ◌∷◌, map, length, get_or, set, take, replicate, sym, refl, ap, ◌∙◌, ⊎_elim, arith}
+use Rattle.std.proofs.lemmas.List.{get_or-map, get_or-set_other, length-set, get_or_past, length-map, get_or-replicate, length-replicate, ext_get_or}
 use Rattle.std.proofs.lemmas.List.Sums.{sum_by_more, sum_by-cons}
 use Rattle.std.proofs.lemmas.List.FromFn.{get_or-map-range_with_len, length-map-range_with_len, fill_by_all}
+use Rattle.std.proofs.lemmas.List.Edits.{fill_by_more}
 use Rattle.std.proofs.lemmas.Bool.{cases_lt}
 use Rattle.codes.specs.Places.{AllBelow}
 use Rattle.codes.specs.Tells.{byte_bit}
@@ -108,3 +109,23 @@ syndrome-zeros n code =
     (λ k h.
     let l : k < checks code = rw (syndrome-length code (replicate n 0)) at h in
     syndrome_at code (replicate n 0) k l ∙ parity-zeros n (check code k) ∙ sym (get_or-replicate (checks code) k 0 0 l))
+
+-- a key that was made all zeros
+pub zeros_tell : (n : ℕ) (key : List ℕ) → key ≡ replicate n 0 → (code : Code) → syndrome code key ≡ replicate (checks code) 0
+zeros_tell n key zeros code = ap (syndrome code) zeros ∙ syndrome-zeros n code
+
+-- the places below i are added, and the rest are as they were
+pub record AddedBelow (a b : List ℕ) (i : ℕ) (key : List ℕ) : Type 0 where
+  pub long : length key ≡ length a
+  pub done : AllBelow (λ k. get_or key k 0 ≡ (get_or a k 0 + get_or b k 0) % 2) i
+  pub left : (k : ℕ) → i ≤ k → get_or key k 0 ≡ get_or a k 0
+
+pub added_more : (a b key : List ℕ) (i v : ℕ) → AddedBelow a b i key → i < length key
+    → v ≡ (get_or key i 0 + get_or b i 0) % 2 → AddedBelow a b (i + 1) (set key i v)
+added_more a b key i v h lt value =
+    let here : v ≡ (get_or a i 0 + get_or b i 0) % 2 = rw (h.left i (omega arith)) at value in
+    record {
+      long = length-set key i v ∙ h.long;
+      done = rw here (fill_by_more (λ k. (get_or a k 0 + get_or b k 0) % 2) key i 0 lt h.done);
+      left = λ k l. let ne : k ≢ i = omega arith in rw get_or-set_other (h.left k (omega arith));
+    }

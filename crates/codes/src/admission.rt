@@ -15,7 +15,7 @@ pub const MOST_ENTRIES: usize = 8192;
 
 const LARGEST_CHECK: usize = 32;
 
-const MOST_CHECKS_HELD: u32 = 16;
+const MOST_CHECKS_HELD: u16 = 16;
 
 // Whether a matrix may have so many positions and checks.
 pub fn sizes_are_sound(n: usize, m: usize) -> bool
@@ -75,6 +75,20 @@ pub(crate) fn count_degrees(positions: &[u16], degrees: &mut [u32])
     }
 }
 
+// Stays: the same in words of half the width, as admission holds its counts on the stack.
+fn count_narrowly(positions: &[u16], degrees: &mut [u16])
+    requires few { length positions.now ≤ 8192 }
+    requires clear { AllBelow (λ i. slice_index degrees.old i ≡ 0) (length degrees.old) }
+    ensures { AllBelow (λ i. slice_index degrees.new i ≡ degree positions.now i) (length degrees.old) }
+{
+    for p in positions {
+        let i = *p as usize;
+        if i < degrees.len() {
+            degrees[i] += 1;
+        }
+    }
+}
+
 fn rises_at(positions: &[u16], j: usize) -> bool
     requires { (0 < j) × (j < length positions.now) }
     ensures { MatchBool result
@@ -113,8 +127,8 @@ fn first_wrong_position(n: usize, positions: &[u16]) -> Option<usize>
     requires width { n ≤ 2048 }
     ensures { MatchOption result (AllBelow (SoundPosition positions.now) n) (FirstFault (SoundPosition positions.now) n) }
 {
-    let mut degrees = [0u32; MOST_POSITIONS];
-    count_degrees(positions, &mut degrees);
+    let mut degrees = [0u16; MOST_POSITIONS];
+    count_narrowly(positions, &mut degrees);
     for (i, degree) in degrees[0..n].iter().enumerate() {
         if *degree < 1 || *degree > MOST_CHECKS_HELD {
             return Some(i);

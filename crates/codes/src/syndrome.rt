@@ -48,6 +48,7 @@ pub fn syndrome_of(
 }
 
 // Adds a word to a key, bit by bit modulo 2; past the word's end nothing is added.
+#[tactic(auto, using(crate::proofs::Parities::added_more))]
 pub fn add_word(key: &mut [u8], word: &[u8])
     ensures sum { key.new ≡ added key.old word.now }
     ensures linear { length word.now ≤ length key.old
@@ -61,6 +62,7 @@ pub fn add_word(key: &mut [u8], word: &[u8])
 }
 
 // Makes a key all zeros.
+#[tactic(auto, using(crate::proofs::Parities::zeros_tell))]
 pub fn clear_key(key: &mut [u8])
     ensures zeros { key.new ≡ replicate (length key.old) 0 }
     ensures zero_syndrome { (code : Code) → syndrome_of code key.new ≡ replicate (checks_of code) 0 }

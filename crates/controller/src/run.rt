@@ -3,19 +3,26 @@ ghost use Rattle.controller.specs.Runs.{numbers16, Whole};
 
 use codes::MatrixRefusal;
 
-// Reads a run of 16-bit numbers, highest byte first, to the front of a buffer; an odd run, or one that is longer, is no matrix's.
-pub(crate) fn read_run<'a>(bytes: &[u8], buffer: &'a mut [u16]) -> Result<&'a [u16], MatrixRefusal>
+// Refuses an odd run, and one of more numbers than a matrix has.
+pub(crate) fn test_run(bytes: &[u8], most: usize) -> Result<(), MatrixRefusal>
     ensures { MatchResult result
-        (λ run. Whole bytes.now × (run.now ≡ numbers16 bytes.now))
-        (λ e. (e ≡ MatrixRefusal.WrongSize) × ¬ (Whole bytes.now × (length bytes.now ≤ 2 * length buffer.entry.now))) }
+        (λ _. Whole bytes.now × (length bytes.now ≤ 2 * most))
+        (λ e. (e ≡ MatrixRefusal.WrongSize) × ¬ (Whole bytes.now × (length bytes.now ≤ 2 * most))) }
 {
-    let count = bytes.len() / 2;
-    if bytes.len() % 2 != 0 || count > buffer.len() {
+    if bytes.len() % 2 != 0 || bytes.len() / 2 > most {
         return Err(MatrixRefusal::WrongSize);
     }
-    let run = &mut buffer[..count];
+    Ok(())
+}
+
+// Reads a run of 16-bit numbers, highest byte first, to the front of a buffer.
+pub(crate) fn read_run<'a>(bytes: &[u8], buffer: &'a mut [u16]) -> &'a [u16]
+    requires { length bytes.now ≤ 2 * length buffer.now }
+    ensures { result.now ≡ numbers16 bytes.now }
+{
+    let run = &mut buffer[..bytes.len() / 2];
     read_numbers(bytes, run);
-    Ok(run)
+    run
 }
 
 #[tactic(auto, using(crate::proofs::Numbers::all_read))]

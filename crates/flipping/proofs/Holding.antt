@@ -18,7 +18,7 @@ take_split xs s e h =
     cc
 
 module _ (code : Code) where
-  holding_split : (test : ℕ → Bool) (k i : ℕ)
+  pub holding_split : (test : ℕ → Bool) (k i : ℕ)
       → holding code test k i + holding code (λ j. not (test j)) k i ≡ holding code (λ _. true) k i
   holding_split test zero i = refl
   holding_split test (suc k) i = grind (arith, common_steps, holding_split test k i)

@@ -260,14 +260,14 @@ module _ (n m : ℕ) (bytes : List ℕ) where
       (λ i l. head_right n m bytes 1 (omega arith) (λ _. known_kind kind (kind_in bytes) known)
       (λ h. absurd (omega arith)) (λ h. absurd (omega arith)) i (omega arith) l)
 
-  wrong_round : 8 ≤ length bytes → Known → side_in bytes < 2
+  pub wrong_round : 8 ≤ length bytes → Known → side_in bytes < 2
       → cond (eqb (kind_in bytes) 1) (eqb (round_in bytes) 0) (ltb 0 (round_in bytes)) ≡ false → read_shape n m bytes ≡ Err (WrongByte 6)
   wrong_round there k small bad =
       fault_at n m bytes 6 (omega arith)
       (λ r. both_ways _ (or_from _ _ (le-ltb (length bytes) 8 there) bad) (right_parts n m bytes 6 r).2)
       (λ i l. head_right n m bytes 6 (omega arith) (λ _. k) (λ _. lt-ltb (side_in bytes) 2 small) (λ h. absurd (omega arith)) i (omega arith) l)
 
-  cut_head : length bytes < 8 → (0 < length bytes → Known) → (1 < length bytes → side_in bytes < 2) → read_shape n m bytes ≡ Err (WrongByte (length bytes))
+  pub cut_head : length bytes < 8 → (0 < length bytes → Known) → (1 < length bytes → side_in bytes < 2) → read_shape n m bytes ≡ Err (WrongByte (length bytes))
   cut_head short k small =
       fault_at n m bytes (length bytes) (omega arith)
       (λ r. omega (arith, (right_parts n m bytes (length bytes) r).0))

@@ -45,7 +45,7 @@ module _ {X Y : Type 0} (P : X → Type 0) (value : X → Y) (f : ℕ → Y) (wa
   pub filled_fine : (now : List X) → Filled P value f was now (length now) → AllByRecursion P now
   filled_fine now inv = all_from_every P now (λ j d low h. inv.fine j d h)
 
-filled_from : {X Y : Type 0} (value : X → Y) (f : ℕ → Y) (a : ℕ) (xs : List X)
+pub filled_from : {X Y : Type 0} (value : X → Y) (f : ℕ → Y) (a : ℕ) (xs : List X)
     → ((j : ℕ) (d : X) → j < length xs → value (get_or xs j d) ≡ f (a + j))
     → map value xs ≡ map f (range_with_len a (length xs))
 filled_from value f a [] h = refl

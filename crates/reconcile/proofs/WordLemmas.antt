@@ -1,8 +1,8 @@
 -- What a word lists, from what its parts were read as.
-use Rattle.std.proofs.Common.{◌≡◌, ◌≢◌, ℕ, zero, suc, ◌^◌, ◌<◌, List, [], ◌∷◌, length, map, take, get_or}
+use Rattle.std.proofs.Common.{◌≡◌, ◌≢◌, ℕ, zero, suc, ◌^◌, ◌/◌, ◌<◌, List, [], ◌∷◌, length, map, take, get_or}
 use Rattle.std.proofs.Common.{Option, Some, None, Result, Ok, Err, Vec, Global, true, codes, arith, subst, sym, refl, ap, ◌∙◌}
 use Rattle.std.specs.Prelude.{IfOk, IfErr, IsOkAnd, IsSomeAnd}
-use Rattle.std.specs.Char.{is_ascii_digit}
+use Rattle.std.specs.Char.{is_ascii_digit, is_ascii_hexdigit}
 use Rattle.std.specs.Iterator.{DrainsIf, Yields}
 use Rattle.std.specs.Iterator.Runs.{YieldsRun, SomeRun, WholeRun, AnyItem}
 use Rattle.std.specs.List.{AllPass, AllZip, slice_get}
@@ -11,10 +11,12 @@ use Rattle.std.specs.Str.Parse.{AllDigits, IsNumeral, digits_value, without_lead
 use Rattle.std.proofs.lemmas.Iterator.{YieldsList, items_from_drains}
 use Rattle.std.proofs.lemmas.Iterator.Consumers.{YieldsList-so_far}
 use Rattle.std.proofs.lemmas.List.{length-map, length-take, get_or-take}
-use Rattle.std.proofs.lemmas.List.Elements.{All-head}
+use Rattle.std.proofs.lemmas.List.Elements.{All-head, All-weaker}
 use Rattle.std.proofs.lemmas.Option.{slice_get-get_or, slice_get-map, get_or_from_slice_get, slice_get_within}
 use Rattle.std.proofs.lemmas.Bool.Decides.{nat_tests}
 use Rattle.std.proofs.lemmas.Str.Parse.{digit_from_value, without_leading_plus_none}
+use Rattle.hex.specs.Hex.{decode_of, decode_sized, is_hex_digit}
+use Rattle.hex.proofs.HexLemmas.{IsOk-decode_sized}
 use Rattle.reconcile.specs.declared.error.LineError.{LineError}
 use Rattle.reconcile.specs.declared.error.LineError.TheVariants.{NotUnderstood}
 use Rattle.reconcile.specs.Words.{IsJustRead, IsNumber, OrDash, ReadAs}
@@ -118,3 +120,15 @@ number_refused part x not_read h =
     let digits : AllPass is_ascii_digit part = all_digits part h.numeral.1 in
     let e = sym (without_leading_plus_none part (no_plus part digits)) in
     not_read digits (rw e at h.numeral, subst (λ ds. digits_value 10 ds < 2 ^ 16) e (subst (λ n. n < 2 ^ 16) h.value h.fits))
+
+-- ---- hexadecimal
+
+hex_letter : (c : ℕ) → is_hex_digit c ≡ true → is_ascii_hexdigit c ≡ true
+hex_letter c h = grind (arith, nat_tests)
+
+-- what is decoded has digits alone
+pub decoded_digits : (word xs : List ℕ) → decode_of word ≡ Ok xs → AllPass is_ascii_hexdigit word
+decoded_digits word xs h =
+    let sized : decode_sized word (length word / 2) ≡ Ok xs = grind (arith) in
+    let d = (IsOk-decode_sized word (length word / 2)).0 (rw sized refl) in
+    All-weaker (λ c. is_hex_digit c ≡ true) (λ c. is_ascii_hexdigit c ≡ true) hex_letter word d.1

@@ -32,9 +32,17 @@ fn is_passed_over(line: &[u8]) -> bool
 
 fn main(rt: HostRuntime) -> io::Result<()> {
     let mut desk = Desk::new(rt.alloc());
-    let input = BufReader::new(rt.alloc(), rt.stdin())?;
-    for (line, count) in input.split(rt.alloc(), b'\n').zip(1u64..) {
-        let line = line?;
+    let mut input = BufReader::new(rt.alloc(), rt.stdin())?;
+    // Stays: one buffer for all lines, as `split` would allocate one for each.
+    let mut line = Vec::new(rt.alloc());
+    for count in 1..u64::MAX {
+        line.clear();
+        if input.read_until(b'\n', &mut line)? == 0 {
+            break;
+        }
+        if line.last() == Some(&b'\n') {
+            let _ = line.pop();
+        }
         if is_passed_over(line.as_slice()) {
             continue;
         }

@@ -11,7 +11,8 @@ use std::fmt::{Display, Write};
 fn digit(bit: u8) -> char
     ensures { result ≡ bit_digit bit }
 {
-    if bit == 0 { '0' } else { '1' }
+    // A sum and no choice, since a branch on each bit of a key is guessed wrong half the time.
+    char::from(b'0' + u8::from(bit != 0))
 }
 
 // Bits as digits.

@@ -105,7 +105,14 @@ pub fn hexadecimal(heap: Global, word: &str) -> Result<Vec<u8>, LineError>
     if word == "-" {
         return Ok(Vec::new(heap));
     }
-    if word.is_empty() || word.bytes().any(|b| b.is_ascii_uppercase()) {
+    // Tested before memory is taken: a word that stands for no bytes asks for none.
+    if word.is_empty() || word.len() % 2 != 0 {
+        return Err(LineError::NotUnderstood);
+    }
+    if word
+        .bytes()
+        .any(|b| b.is_ascii_uppercase() || !b.is_ascii_hexdigit())
+    {
         return Err(LineError::NotUnderstood);
     }
     let mut bytes = vec![in heap; 0u8; word.len() / 2]?;

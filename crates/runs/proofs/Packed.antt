@@ -1,8 +1,10 @@
 -- Packing a run of bits and unpacking it are inverse, and a packed run grows bit by bit.
-use Rattle.std.proofs.Common.{◌≡◌, ℕ, ◌+◌, ◌-◌, ◌*◌, ◌/◌, ◌%◌, ◌^◌, ◌<◌, ◌≤◌, ◌⊎◌, List, [], ◌∷◌, ◌++◌, map, length, get_or, take, set, replicate, fold, cond, eqb, sym, refl, ap, ◌∙◌, inl, inr, ⊎_elim, arith}
-use Rattle.std.proofs.lemmas.List.FromFn.{length-map-range_with_len, get_or-map-range_with_len, fill_by_all}
+use Rattle.std.proofs.Common.{◌≡◌, ℕ, ◌+◌, ◌-◌, ◌*◌, ◌/◌, ◌%◌, ◌^◌, ◌<◌, ◌≤◌, ◌⊎◌, List, [], ◌∷◌, ◌++◌, map, length, get_or, take, set, replicate, sum, sym, refl, ap, ◌∙◌, inl, inr, ⊎_elim, arith}
+use Rattle.std.specs.List.{range_with_len}
+use Rattle.std.proofs.lemmas.List.FromFn.{length-range_with_len, length-map-range_with_len, get_or-map-range_with_len, fill_by_all}
 use Rattle.std.proofs.lemmas.List.{ext_get_or, get_or_past, get_or_append_left, get_or_push, length_push, length-set, get_or-set_same, get_or-set_other, length-map, get_or-map, get_or-take, length-replicate, get_or-replicate}
 use Rattle.std.proofs.lemmas.Grind.{common_steps}
+use Rattle.std.proofs.lemmas.List.Sums.{sum_by-cons}
 use Rattle.std.proofs.lemmas.Bool.{cases_lt, cases_eq}
 use Rattle.codes.specs.Places.{AllBelow}
 use Rattle.runs.specs.Bits.{bit_of, bit_at, bytes_for, unpacked, packed, packed_byte, packed_to, unused, SoundByte, IsBits, IsBytes, IsRun}
@@ -162,13 +164,13 @@ pub cleared : (k : ℕ) → replicate k 0 ≡ packed_to k []
 unfolding packed_to
 cleared k = fill_by_all (packed_byte []) (replicate k 0) k 0 (length-replicate k 0) (λ q l. get_or-replicate k q 0 0 l)
 
--- numbers that are bits add up to how many of them are 1
-pub ones_counted : (f : ℕ → ℕ) → ((i : ℕ) → f i < 2) → (xs : List ℕ) (n : ℕ)
-    → fold (λ a i. a + cond (eqb (f i) 1) 1 0) n xs ≡ fold (λ a x. a + x) n (map f xs)
-ones_counted f small [] n = refl
-ones_counted f small (x ∷ xs) n =
-    let one : cond (eqb (f x) 1) 1 0 ≡ f x = (let s = small x in grind (arith, common_steps)) in
-    rw one (ones_counted f small xs (n + f x))
+-- bits add up to no more than there are
+pub ones_small : (f : ℕ → ℕ) → ((i : ℕ) → f i < 2) → (xs : List ℕ) → sum (map f xs) ≤ length xs
+ones_small f small [] = omega arith
+ones_small f small (x ∷ xs) = omega (arith, sum_by-cons (λ (n : ℕ). n) (f x) (map f xs), small x, ones_small f small xs)
+
+pub ones_fit : (f : ℕ → ℕ) → ((i : ℕ) → f i < 2) → (w : ℕ) → sum (map f (range_with_len 0 w)) ≤ w
+ones_fit f small w = omega (arith, ones_small f small (range_with_len 0 w), length-range_with_len 0 w)
 
 pub filled : (bits bytes : List ℕ) (w : ℕ) → length bits ≡ w → ((i : ℕ) → i < w → get_or bits i 0 ≡ bit_at bytes i) → bits ≡ unpacked w bytes
 unfolding unpacked

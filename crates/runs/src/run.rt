@@ -39,12 +39,12 @@ impl<'a> Run<'a> {
         }
     }
 
-    // How many bits are 1.
+    // How many bits are 1: a sum of them, as to count those that pass a test branches on each.
     pub fn ones(&self) -> usize
         ensures { result ≡ sum (bits_of self.now) }
     {
         (0..self.width)
-            .filter(|i| bit_at(self.bytes, *i) == 1)
-            .count()
+            .map(|i| usize::from(bit_at(self.bytes, i)))
+            .sum()
     }
 }
