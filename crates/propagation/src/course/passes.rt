@@ -31,13 +31,14 @@ fn prior<B: Belief>(raw: B, known: B, state: State) -> B
 }
 
 // Nothing is sent yet.
-// Stays: a loop, as std's `fill` clones, and a belief promises to copy and not that a clone cannot fail.
+// Stays: a loop, as std's `fill` clones, and a belief promises to copy and not that a clone cannot fail; by the index,
+// so that an edit can leave the first place as it was.
 pub(super) fn clear_sent<B: Belief>(sent: &mut [B])
     ensures kept { (k : ℕ) → Within B.exact B.eighths k sent.new }
     ensures value { map B.eighths sent.new ≡ replicate (length sent.old) (pos 0) }
 {
-    for belief in sent.iter_mut() {
-        *belief = B::of(0);
+    for i in 0..sent.len() {
+        sent[i] = B::of(0);
     }
 }
 
